@@ -1,0 +1,4 @@
+pub mod Reference
+pub mod Live
+pub mod Law
+pub mod Sessions
