@@ -32,8 +32,8 @@ pub record Reference : Type 0 where
 unfoldable pub entry : List (List Value) → ℕ → List Value
 entry cells b = getD cells b []
 
-unfoldable pub rewritten : List (List Value) → ℕ → List Value → List (List Value)
-rewritten cells b vs = set cells b vs
+unfoldable pub replaced : List (List Value) → ℕ → List Value → List (List Value)
+replaced cells b vs = set cells b vs
 
 -- How many cells were made, which is the number of the next one.
 unfoldable pub made : List (List Value) → ℕ
@@ -93,7 +93,7 @@ select w j k = cond (leb 1 j && leb j w) (select-in (j - 1) (k .list) k) (refuse
 abbrev pub clobber-at : Value → Value → ℕ → List Value → Reference → Told
 clobber-at V.Nil v i vs k = refuses R.NotACell k
 clobber-at (V.Number x) v i vs k = refuses R.NotACell k
-clobber-at (V.Cell b) v i vs k = answers A.Done (record { roots = k .roots; list = vs; cells = rewritten (k .cells) b (set (entry (k .cells) b) i v) })
+clobber-at (V.Cell b) v i vs k = answers A.Done (record { roots = k .roots; list = vs; cells = replaced (k .cells) b (set (entry (k .cells) b) i v) })
 
 abbrev pub clobber-in : ℕ → List Value → Reference → Told
 clobber-in i [] k = refuses R.TooFew k

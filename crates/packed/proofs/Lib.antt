@@ -1,0 +1,4 @@
+pub mod Masks
+pub mod Runs
+pub mod Slots
+pub mod Cells
