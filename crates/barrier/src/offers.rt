@@ -13,7 +13,7 @@ use values::Kind;
 use values::Value;
 use values::kind_of;
 
-// A full collector stack takes no more. The list's height is only looked at, so that callers can say what the whole heap becomes.
+// Offers a value; a full collector stack takes no more. `top` is there for the contract, which speaks of the whole heap.
 pub fn offer<S: CellStore>(top: &Top, regs: &mut Registers, s: &mut S, v: Value)
     ensures { λ _. ⌜ view (now (top .entry)) (now (regs .exit)) (meaning (now (s .exit))) ≡ offered v (view (now (top .entry)) (now (regs .entry)) (meaning (now (s .entry)))) ⌝ }
 {

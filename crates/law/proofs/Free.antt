@@ -12,7 +12,7 @@ use Rattle.values.specs.declared.cells.Value.the-variants as V
 use Rattle.model.specs.declared.registers.FreeList.{FreeList}
 use Rattle.model.specs.Heap.{Mem, at, put, part}
 use Rattle.law.proofs.Memory.{size, size-put, Written, here, there, written}
-use Rattle.law.proofs.Places.{In, Distinct}
+use Rattle.law.specs.Live.{In, Distinct}
 
 -- from the first place through first components to the last
 pub data Linked (m : Mem) (z : ℕ) : ℕ → List ℕ → Type 0 where
@@ -63,4 +63,3 @@ vacancy-put {m} p c l n n′ W = vacancy-keep (size-put m p c) (λ q k. f q k (w
 pub except : (q p : ℕ) (ps : List ℕ) → (q ≡ p → ⊥) → In q (p ∷ ps) → In q ps
 except q p ps n (inl e) = absurd (n e)
 except q p ps n (inr i) = i
-

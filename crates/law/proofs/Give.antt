@@ -114,4 +114,3 @@ module _ (ph : Phase) (D : ℕ → Kind → Type 0) (own : Ghost) (k : Reference
   pub give-from : (n i : ℕ) (h : Heap) → h .phase ≡ ph → Inv-at ph D h own k → Stoods n i h → Given-from ph D own k vs n i h (offered-from n i vs h)
   give-from zero i h e I S = given-from I (λ j a b. absurd (omega arith)) grows-refl (λ q. refl)
   give-from (suc n) i h e I S = more n i h e I S (λ h₁ e₁ I₁ S₁. give-from n (i + 1) h₁ e₁ I₁ S₁) (shade (getD vs i V.Nil) h)
-

@@ -12,7 +12,7 @@ use Rattle.model.specs.Heap.{Mem, at, put}
 use Rattle.model.specs.Words.{waiting}
 use Rattle.law.proofs.Memory.{size, size-put, Written, here, there, written}
 use Rattle.law.proofs.Words.{Wanted}
-use Rattle.law.proofs.Places.{In, Distinct}
+use Rattle.law.specs.Live.{In, Distinct}
 
 pub record Grey (m : Mem) (g : List ℕ) : Type 0 where
   pub distinct : Distinct g
@@ -43,4 +43,3 @@ queue-grey m g p l G w = record {
         go : Written m p (waiting (at m p)) q → In q (p ∷ g)
         go (here e a) = inl e
         go (there n a) = inr (G .all q (simp size-put at k) (rw a at e))
-

@@ -25,7 +25,8 @@ use Rattle.law.proofs.Memory.{size, size-small, size-put, at-same, Written, he
 use Rattle.law.proofs.PlaceKinds.{is-plain, is-accessible, is-moved}
 use Rattle.law.proofs.Rows.{Rows, rows-map}
 use Rattle.law.proofs.Words.{Offered, o-nil, o-num, o-off, o-kept, o-queued}
-use Rattle.law.proofs.Places.{In, Distinct, pigeons}
+use Rattle.law.specs.Live.{In, Distinct}
+use Rattle.law.proofs.Places.{pigeons}
 use Rattle.law.proofs.Slots.{slot}
 use Rattle.law.proofs.Grey.{Grey, queue-grey}
 use Rattle.law.proofs.Free.{Vacancy, vacancy-keep}
@@ -300,4 +301,3 @@ module _ (ph : Phase) {m m′ : Mem} (G : Grows m m′) (fs : (q : ℕ) → at m
     slot-new = λ i d. grows-new G (I .slot-new i d);
     part-new = λ q l d i. rw (fs q) (grows-new G (I .part-new q (inside q l) (rw (G .alike .kinds q) at d) i));
   }
-

@@ -1,5 +1,5 @@
--- What is kept when the phase changes, with its cursors, and no cell does.
-use mathlib.Core.Path.{_≡_, refl, sym, ap}
+-- What is kept when no cell changes, but the phase with its cursors does.
+use mathlib.Core.Path.{_≡_, refl, sym, ap, subst}
 use mathlib.Core.Logic.{_⊎_, inl, inr}
 use mathlib.Core.List.{List}
 use mathlib.Core.Bool.{true, false}
@@ -7,7 +7,7 @@ use Prim.Native.Nat.{ℕ, suc, _<_, _≤_, _+_}
 use native.Mathlib.Omega.{arith}
 use lib.ListN.{length, getD}
 use Rattle.std.specs.declared.option.Option.{Option}
-use Rattle.std.proofs.shelf.Tests.{cases-eq, cases-lt, true≢false, eq-eqb, ne-eqb}
+use Rattle.std.proofs.shelf.Tests.{cases-eq, cases-lt, true≢false, eq-eqb, ne-eqb, le-ltb}
 use Rattle.values.specs.Cells.{kind}
 use Rattle.values.specs.declared.cells.Cell.{Cell}
 use Rattle.values.specs.declared.cells.Kind.{Kind}
@@ -16,24 +16,32 @@ use Rattle.values.specs.declared.cells.Value.{Value}
 use Rattle.values.specs.declared.cells.Value.the-variants as V
 use Rattle.model.specs.declared.registers.FreeList.{FreeList}
 use Rattle.model.specs.declared.registers.Phase.{Phase}
-use Rattle.model.specs.Heap.{Mem, at, part}
+use Rattle.model.specs.declared.registers.Phase.the-variants as P
+use Rattle.model.specs.Heap.{Heap, Mem, at, part}
 use Rattle.law.specs.Reference.{Reference, entry, made}
-use Rattle.law.proofs.Inv.{Seen, Settled, settled-nil, settled-num, settled-cell, Root-done, Slot-done, Cell-done, Kinds, Dark, Quiet, Inv}
+use Rattle.law.proofs.Give.{Inv-at}
+use Rattle.law.proofs.Inv.{Seen, Settled, settled-nil, settled-num, settled-cell, Root-done, Slot-done, Cell-done, Kinds, Dark, Quiet, Inv, Inv-of}
 use Rattle.law.proofs.Memory.{size, at-past}
 use Rattle.law.proofs.PlaceKinds.{is-accessible, is-moved}
 use Rattle.law.proofs.Rows.{Rows, r-none, r-more, rows-map}
 use Rattle.law.proofs.Slots.{slot}
-use Rattle.law.proofs.Values.{Ghost, Good, Means, v-nil, v-num, v-cell, v-moved}
+use Rattle.law.proofs.Values.{goodb, Ghost, Good, Means, v-nil, v-num, v-cell, v-moved}
 
--- ---- fewer places may count in the new phase, and other cells of the reference heap
+-- the invariant of a heap whose phase is known
+pub in-phase : (h : Heap) {own : Ghost} {k : Reference} {ph : Phase} → h .phase ≡ ph → Inv-of h own k → Inv-at ph (Cell-done ph) h own k
+in-phase h {own} {k} e I = subst (λ (x : Phase). Inv-at x (Cell-done x) h own k) e I
+
+-- the ghost with other cells that count
 abbrev pub counting : (ℕ → Type 0) → Ghost → Ghost
 counting A own = record { to = own .to; ok = A }
 
-pub record Narrows (ph ph′ : Phase) (m : Mem) (g : List ℕ) (rs st : List Value) (own : Ghost) (A : ℕ → Type 0) (k : Reference) : Type 0 where
+-- ---- what is to be shown anew when no cell changes: fewer places may count, and roots and list may be others
+pub record Anew (ph ph′ : Phase) (m : Mem) (g : List ℕ) (rs st : List Value) (own : Ghost) (A : ℕ → Type 0) (k : Reference) : Type 0 where
   pub back : (q : ℕ) → q < size m → Good ph′ m (counting A own) q → Good ph m own q
   pub parts : (q : ℕ) → q < size m → Good ph′ m (counting A own) q → (i : ℕ) → Means ph′ m (counting A own) (part (at m q) i) (getD (entry (k .cells) (own .to q)) i V.Nil)
   pub roots : Rows (Means ph′ m (counting A own)) rs (k .roots)
   pub list : Rows (Means ph′ m (counting A own)) st (k .list)
+  pub wide : length rs ≡ 16
   pub quiet : Quiet ph′ g
   pub kinds : Kinds ph′ m
   pub fair : (q : ℕ) → q < size m → Dark ph′ q (at m q) → A (own .to q)
@@ -42,8 +50,8 @@ pub record Narrows (ph ph′ : Phase) (m : Mem) (g : List ℕ) (rs st : List Val
   pub slot-new : (i : ℕ) → Slot-done ph′ i → Settled ph′ m (slot st i)
   pub part-new : (q : ℕ) → q < size m → Cell-done ph′ q (kind (at m q)) → (i : ℕ) → Settled ph′ m (part (at m q) i)
 
-pub narrow : {ph ph′ : Phase} {D : ℕ → Kind → Type 0} {m : Mem} {g : List ℕ} {f : Option FreeList} {rs st : List Value} {own : Ghost} {A : ℕ → Type 0} {k : Reference} → Inv ph D m g f rs st own k → Narrows ph ph′ m g rs st own A k → Inv ph′ (Cell-done ph′) m g f rs st (counting A own) k
-narrow I N = record {
+pub renew : {ph ph′ : Phase} {D : ℕ → Kind → Type 0} {m : Mem} {g : List ℕ} {f : Option FreeList} {rs rs′ st st′ : List Value} {own : Ghost} {A : ℕ → Type 0} {k : Reference} → Inv ph D m g f rs st own k → Anew ph ph′ m g rs′ st′ own A k → Inv ph′ (Cell-done ph′) m g f rs′ st′ (counting A own) k
+renew I N = record {
   cells = record {
     parts = N .parts;
     full = λ q l G. I .cells .full q l (N .back q l G);
@@ -54,7 +62,7 @@ narrow I N = record {
   list = N .list;
   even = I .even;
   spare = I .spare;
-  wide = I .wide;
+  wide = N .wide;
   grey = I .grey;
   quiet = N .quiet;
   kinds = N .kinds;
@@ -84,11 +92,12 @@ pub record Turns (ph ph′ : Phase) (m : Mem) (g : List ℕ) (rs st : List Value
   pub part-new : (q : ℕ) → q < size m → Cell-done ph′ q (kind (at m q)) → (i : ℕ) → Settled ph′ m (part (at m q) i)
 
 pub turn : {ph ph′ : Phase} {D : ℕ → Kind → Type 0} {m : Mem} {g : List ℕ} {f : Option FreeList} {rs st : List Value} {own : Ghost} {k : Reference} → Inv ph D m g f rs st own k → Turns ph ph′ m g rs st own → Inv ph′ (Cell-done ph′) m g f rs st own k
-turn I T = narrow I (record {
+turn I T = renew I (record {
   back = T .back;
   parts = λ q l G i. phase-V (T .forth) (I .cells .parts q l (T .back q l G) i);
   roots = rows-map (λ _ _ x. phase-V (T .forth) x) (I .roots);
   list = rows-map (λ _ _ x. phase-V (T .forth) x) (I .list);
+  wide = I .wide;
   quiet = T .quiet;
   kinds = T .kinds;
   fair = T .fair;
@@ -105,23 +114,26 @@ settled-as f settled-num = settled-num
 settled-as {m = m} f (settled-cell {p} s) = settled-cell (f (at m p) s)
 
 -- one more of what the cursor has passed
-pub pass-one : (P : ℕ → Type 0) (c i : ℕ) → i < c + 1 → P c → (i < c → P i) → P i
-pass-one P c i d n h = go (cases-eq i c)
+pub pass-one : (Q : ℕ → Type 0) (c i : ℕ) → i < c + 1 → Q c → (i < c → Q i) → Q i
+pass-one Q c i d n h = go (cases-eq i c)
   where
-    go : (i ≡ c) ⊎ (i ≡ c → ⊥) → P i
+    go : (i ≡ c) ⊎ (i ≡ c → ⊥) → Q i
     go (inl e) = rw e n
     go (inr e) = h (omega arith)
 
--- ---- related lists, with what is known of each value of the heap
-pub rows-with : {R : Value → Value → Type 0} (P : Value → Type 0) {vs ws : List Value} → Rows R vs ws → ((i : ℕ) → i < length vs → P (getD vs i V.Nil)) → Rows (λ v w. R v w × P v) vs ws
-rows-with P r-none h = r-none
-rows-with P (r-more r rs) h = r-more (r, h 0 (omega arith)) (rows-with P rs (λ i l. h (suc i) (omega arith)))
+-- ---- related lists, with what is known of each entry
+pub rows-both : {R : Value → Value → Type 0} (S : Value → Value → Type 0) {vs ws : List Value} → Rows R vs ws → ((i : ℕ) → i < length vs → S (getD vs i V.Nil) (getD ws i V.Nil)) → Rows (λ v w. R v w × S v w) vs ws
+rows-both S r-none h = r-none
+rows-both S (r-more r rs) h = r-more (r, h 0 (omega arith)) (rows-both S rs (λ i l. h (suc i) (omega arith)))
 
-pub slots-with : {R : Value → Value → Type 0} (P : Value → Type 0) {vs ws : List Value} → Rows R vs ws → ((i : ℕ) → i < length vs → P (slot vs i)) → Rows (λ v w. R v w × P v) vs ws
-slots-with P r-none h = r-none
-slots-with P (r-more {v} {w} {vs} r rs) h =
-    let top : P v = rw (eq-eqb (length vs) (length vs) refl) at (h (length vs) (omega arith)) in
-    r-more (r, top) (slots-with P rs (λ i l. rw (ne-eqb (length vs) i (λ e. omega arith)) at (h i (omega arith))))
+pub rows-with : {R : Value → Value → Type 0} (Q : Value → Type 0) {vs ws : List Value} → Rows R vs ws → ((i : ℕ) → i < length vs → Q (getD vs i V.Nil)) → Rows (λ v w. R v w × Q v) vs ws
+rows-with Q rs h = rows-both (λ v w. Q v) rs h
+
+pub slots-with : {R : Value → Value → Type 0} (Q : Value → Type 0) {vs ws : List Value} → Rows R vs ws → ((i : ℕ) → i < length vs → Q (slot vs i)) → Rows (λ v w. R v w × Q v) vs ws
+slots-with Q r-none h = r-none
+slots-with Q (r-more {v} {w} {vs} r rs) h =
+    let top : Q v = rw (eq-eqb (length vs) (length vs) refl) at (h (length vs) (omega arith)) in
+    r-more (r, top) (slots-with Q rs (λ i l. rw (ne-eqb (length vs) i (λ e. omega arith)) at (h i (omega arith))))
 
 -- ---- kinds
 pub accessible-true : (k : Kind) → is-accessible k ≡ true → k ≡ K.Accessible
@@ -130,7 +142,11 @@ accessible-true K.Accessible e = refl
 accessible-true K.Moved e = absurd (true≢false (sym e))
 accessible-true K.Free e = absurd (true≢false (sym e))
 
--- what holds of every place that there is holds of all: none past them has moved
+-- when reclaim begins the accessible places count
+pub good-first : (p : ℕ) (c : Kind) → goodb (P.Reclaim 0) p c ≡ is-accessible c
+good-first p c = rw (le-ltb p 0 (omega arith))
+
+-- no place past those that there are has moved
 pub unmoved : (m : Mem) → ((p : ℕ) → p < size m → is-moved (kind (at m p)) ≡ false) → (p : ℕ) → is-moved (kind (at m p)) ≡ false
 unmoved m h p = go (cases-lt p (size m))
   where

@@ -208,4 +208,3 @@ module _ {ph : Phase} {m : Mem} {own : Ghost} {b : List (List Value)} (C : Cells
     owned = λ q k e. rw (made-replaced b (own .to p) (set (entry b (own .to p)) i w)) (C .owned q (in′ k) (back e));
     apart = λ q r k₁ k₂ e₁ e₂ d. C .apart q r (in′ k₁) (in′ k₂) (back e₁) (back e₂) d;
   }
-

@@ -1,7 +1,8 @@
 -- The live cells of a reference heap: those to which a root or a list value leads along components.
 use mathlib.Core.Path.{_≡_}
-use mathlib.Core.Bool.{Bool, true, false, cond, _||_}
-use mathlib.Core.List.{List, [], _∷_, _++_}
+use mathlib.Core.Logic.{_⊎_}
+use mathlib.Core.Bool.{Bool, false, cond, _||_}
+use mathlib.Core.List.{List, [], _∷_}
 use Prim.Native.Nat.{ℕ, zero, suc, _+_}
 use lib.Dec.{eqb}
 use lib.ListN.{getD, length}
@@ -42,3 +43,24 @@ components (vs ∷ cells) = length vs + components cells
 -- every root, list value and component is visited once at most
 unfoldable pub live : Reference → List ℕ
 live k = visit (length (named (k .roots) (named (k .list) [])) + components (k .cells)) (k .cells) [] (named (k .roots) (named (k .list) []))
+
+-- ---- that the list is right
+
+-- b stands in the list
+abbrev pub In : ℕ → List ℕ → Type 0
+In b [] = ⊥
+In b (x ∷ xs) = (b ≡ x) ⊎ In b xs
+
+-- no number stands in it twice
+abbrev pub Distinct : List ℕ → Type 0
+Distinct [] = Unit {0}
+Distinct (x ∷ xs) = (In x xs → ⊥) × Distinct xs
+
+-- The list has every live cell, no other, and each once; so its length is their number.
+pub record Lists-the-live (k : Reference) : Type 0 where
+  pub all : (b : ℕ) → Leads k b → In b (live k)
+  pub only : (b : ℕ) → In b (live k) → Leads k b
+  pub once : Distinct (live k)
+
+abbrev pub Live-is-right : Type 0
+Live-is-right = (k : Reference) → Lists-the-live k

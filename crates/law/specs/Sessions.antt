@@ -4,7 +4,7 @@ use mathlib.Core.Bool.{Bool, true, false, cond}
 use mathlib.Core.List.{List, [], _∷_, _++_}
 use Prim.Native.Nat.{ℕ, zero, suc, _+_}
 use lib.Dec.{eqb}
-use lib.Ieee.{Float, binary32, ofBits}
+use lib.Ieee.{binary32, ofBits}
 use lib.ListN.{getD, length, replicate}
 use Rattle.std.specs.declared.result.Result.{Result}
 use Rattle.std.specs.declared.result.Result.the-variants.{Ok, Err}
@@ -123,15 +123,21 @@ census n = says C.Census (Ok (A.Census n))
 
 -- nothing can be made where there is no cell
 abbrev pub no-cell : Session
-no-cell = record { places = 0; lines =
-  nil ∷ nil ∷ refuses (C.List L.Create) R.NoSpace ∷ height 2 ∷ [] }
+no-cell = record {
+  places = 0;
+  lines =
+      nil ∷ nil ∷ refuses (C.List L.Create) R.NoSpace ∷ height 2 ∷ [];
+}
 
 -- four cells are filled, and a cycle of 22 steps empties them
 abbrev pub filled : Session
-filled = record { places = 4; lines =
-  nil ∷ nil ∷ create ∷ nil ∷ nil ∷ create ∷ nil ∷ nil ∷ create ∷ nil ∷ nil ∷ create ∷ nil ∷ nil ∷ refuses (C.List L.Create) R.NoSpace
-  ∷ census 4 ∷ popitem ∷ popitem ∷ popitem ∷ popitem ∷ popitem ∷ popitem
-  ∷ begin 0 ∷ passes 17 N.Reclaim 0 ∷ passes 5 N.Rest 4 ∷ census 0 ∷ [] }
+filled = record {
+  places = 4;
+  lines =
+      nil ∷ nil ∷ create ∷ nil ∷ nil ∷ create ∷ nil ∷ nil ∷ create ∷ nil ∷ nil ∷ create ∷ nil ∷ nil ∷ refuses (C.List L.Create) R.NoSpace
+      ∷ census 4 ∷ popitem ∷ popitem ∷ popitem ∷ popitem ∷ popitem ∷ popitem
+      ∷ begin 0 ∷ passes 17 N.Reclaim 0 ∷ passes 5 N.Rest 4 ∷ census 0 ∷ [];
+}
 
 -- two cells in roots 0 and 1, and then nil in root 0
 abbrev pub two-roots : List Line
@@ -139,43 +145,61 @@ two-roots = nil ∷ nil ∷ create ∷ store 0 ∷ nil ∷ nil ∷ create ∷ st
 
 -- a cycle that moves the cell of root 1 to place 0
 abbrev pub moving : Session
-moving = record { places = 4; lines =
-  two-roots ++ (begin 1 ∷ passes 18 N.Relocate 0 ∷ passes 4 N.Update 0 ∷ passes 21 N.Reclaim 0 ∷ passes 5 N.Rest 1 ∷ root 1 (V.Cell 0) ∷ census 1 ∷ []) }
+moving = record {
+  places = 4;
+  lines =
+      two-roots ++ (begin 1 ∷ passes 18 N.Relocate 0 ∷ passes 4 N.Update 0 ∷ passes 21 N.Reclaim 0 ∷ passes 5 N.Rest 1 ∷ root 1 (V.Cell 0) ∷ census 1 ∷ []);
+}
 
 -- the same with an edit of the cell after it was moved
 abbrev pub edited : Session
-edited = record { places = 4; lines =
-  two-roots ++ (begin 1 ∷ passes 18 N.Relocate 0 ∷ passes 4 N.Update 0
-  ∷ load 1 ∷ number 0x4000_0000 ∷ clobber 1
-  ∷ passes 21 N.Reclaim 0 ∷ passes 5 N.Rest 1
-  ∷ load 1 ∷ select 1 ∷ says (C.List L.Look) (Ok (A.Look (K.Number (ofBits binary32 0x4000_0000)))) ∷ []) }
+edited = record {
+  places = 4;
+  lines =
+      two-roots ++ (begin 1 ∷ passes 18 N.Relocate 0 ∷ passes 4 N.Update 0
+      ∷ load 1 ∷ number 0x4000_0000 ∷ clobber 1
+      ∷ passes 21 N.Reclaim 0 ∷ passes 5 N.Rest 1
+      ∷ load 1 ∷ select 1 ∷ says (C.List L.Look) (Ok (A.Look (K.Number (ofBits binary32 0x4000_0000)))) ∷ []);
+}
 
 -- a cell is taken from its parent after one step, and both are kept
 abbrev pub taken : Session
-taken = record { places = 4; lines =
-  nil ∷ nil ∷ create ∷ nil ∷ create ∷ store 1
-  ∷ begin 0 ∷ step-in-mark ∷ load 1 ∷ select 1 ∷ store 0 ∷ load 1 ∷ nil ∷ clobber 1
-  ∷ passes 18 N.Reclaim 0 ∷ passes 5 N.Rest 0 ∷ census 2 ∷ [] }
+taken = record {
+  places = 4;
+  lines =
+      nil ∷ nil ∷ create ∷ nil ∷ create ∷ store 1
+      ∷ begin 0 ∷ step-in-mark ∷ load 1 ∷ select 1 ∷ store 0 ∷ load 1 ∷ nil ∷ clobber 1
+      ∷ passes 18 N.Reclaim 0 ∷ passes 5 N.Rest 0 ∷ census 2 ∷ [];
+}
 
 -- a cell made below the sweep cursor outlives this cycle and the next
 abbrev pub below-the-sweep : Session
-below-the-sweep = record { places = 2; lines =
-  nil ∷ nil ∷ create ∷ popitem ∷ nil ∷ nil ∷ create ∷ store 0
-  ∷ begin 0 ∷ passes 18 N.Reclaim 0 ∷ step-in-reclaim true
-  ∷ load 0 ∷ nil ∷ create ∷ store 1 ∷ nil ∷ store 0 ∷ passes 2 N.Rest 0
-  ∷ begin 0 ∷ passes 19 N.Reclaim 0 ∷ passes 3 N.Rest 0
-  ∷ load 1 ∷ select 1 ∷ says (C.List L.Look) (Ok (A.Look K.Cell)) ∷ [] }
+below-the-sweep = record {
+  places = 2;
+  lines =
+      nil ∷ nil ∷ create ∷ popitem ∷ nil ∷ nil ∷ create ∷ store 0
+      ∷ begin 0 ∷ passes 18 N.Reclaim 0 ∷ step-in-reclaim true
+      ∷ load 0 ∷ nil ∷ create ∷ store 1 ∷ nil ∷ store 0 ∷ passes 2 N.Rest 0
+      ∷ begin 0 ∷ passes 19 N.Reclaim 0 ∷ passes 3 N.Rest 0
+      ∷ load 1 ∷ select 1 ∷ says (C.List L.Look) (Ok (A.Look K.Cell)) ∷ [];
+}
 
 -- numbers are identical by their patterns, and what is not a number is one value
 abbrev pub patterns : Session
-patterns = record { places = 0; lines =
-  number 0 ∷ number 0x8000_0000 ∷ says (C.List L.Identical) (Ok (A.Same false))
-  ∷ number 0x7fc0_0000 ∷ number 0xffc0_0001 ∷ says (C.List L.Identical) (Ok (A.Same true)) ∷ [] }
+patterns = record {
+  places = 0;
+  lines =
+      number 0 ∷ number 0x8000_0000 ∷ says (C.List L.Identical) (Ok (A.Same false))
+      ∷ number 0x7fc0_0000 ∷ number 0xffc0_0001 ∷ says (C.List L.Identical) (Ok (A.Same true)) ∷ [];
+}
 
 -- refusals with an empty list and with two nils
 abbrev pub refusals : Session
-refusals = record { places = 4; lines =
-  refuses (C.List (L.Select 3)) R.OutOfRange ∷ refuses (C.List (L.Pdlget 0)) R.TooFew ∷ nil ∷ nil ∷ refuses (C.List (L.Clobber 1)) R.NotACell ∷ height 2 ∷ [] }
+refusals = record {
+  places = 4;
+  lines =
+      refuses (C.List (L.Select 3)) R.OutOfRange ∷ refuses (C.List (L.Pdlget 0)) R.TooFew ∷ nil ∷ nil ∷ refuses (C.List (L.Clobber 1)) R.NotACell ∷ height 2 ∷ [];
+}
 
 abbrev pub sessions : List Session
 sessions = no-cell ∷ filled ∷ moving ∷ edited ∷ taken ∷ below-the-sweep ∷ patterns ∷ refusals ∷ []

@@ -1,5 +1,4 @@
 -- Answers and refusals: their numbers and printed words.
-use mathlib.Core.List.{List}
 use Prim.Native.Nat.{ℕ}
 use Rattle.model.specs.declared.answers.PhaseName.{PhaseName}
 use Rattle.model.specs.declared.answers.PhaseName.the-variants as N

@@ -1,7 +1,7 @@
 -- The twelve list calls.
 use mathlib.Core.Bool.{Bool, true, false, cond, _&&_}
-use mathlib.Core.List.{List, [], _∷_}
-use Prim.Native.Nat.{ℕ, zero, suc, _+_, _-_}
+use mathlib.Core.List.{List, _∷_}
+use Prim.Native.Nat.{ℕ, _-_}
 use lib.Dec.{ltb, leb, eqb}
 use lib.Ieee.{Float, binary32, toBits}
 use lib.ListN.{length, getD, set, drop}
@@ -18,7 +18,7 @@ use Rattle.model.specs.declared.answers.Refusal.the-variants as R
 use Rattle.model.specs.declared.registers.FreeList.{FreeList}
 use Rattle.model.specs.declared.registers.Phase.{Phase}
 use Rattle.model.specs.declared.registers.Phase.the-variants as P
-use Rattle.model.specs.Heap.{Heap, Mem, Done, granted, refused, at, put, part, with-mem, with-list, with-roots, with-free}
+use Rattle.model.specs.Heap.{Heap, Done, granted, refused, at, put, part, with-mem, with-list, with-roots, with-free}
 use Rattle.model.specs.Words.{normal, normal-all, offered, offered-all, with-part}
 
 -- ---- nil, number, load, pdlget: a value is pushed

@@ -1,6 +1,6 @@
 -- The heap as one record of lists, and what the registers and a store's cells mean as such a record.
-use mathlib.Core.Bool.{Bool, true, false, cond}
-use mathlib.Core.List.{List, [], _∷_}
+use mathlib.Core.Bool.{cond}
+use mathlib.Core.List.{List}
 use Prim.Native.Nat.{ℕ, min}
 use lib.Dec.{ltb}
 use lib.ListN.{length, getD, set}
@@ -24,6 +24,10 @@ use Rattle.model.specs.declared.registers.Top.{Top}
 pub record Mem : Type 0 where
   pub width : ℕ
   pub cells : List Cell
+
+-- The memory that a store's cells are.
+abbrev pub memory : List Cell → Mem
+memory cs = record { width = 2; cells = cs }
 
 -- N, the number of places: the store's, and 4,096 at most.
 abbrev pub limit : Mem → ℕ
@@ -80,7 +84,7 @@ view t r cs = record {
   list = stacked (t .height) (r .list);
   pending = stacked (r .«pending_height») (r .pending);
   free = r .free;
-  mem = record { width = 2; cells = cs };
+  mem = memory cs;
 }
 
 -- ---- one part of the heap replaced

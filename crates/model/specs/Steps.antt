@@ -2,13 +2,12 @@
 use mathlib.Core.Bool.{Bool, true, false, cond}
 use mathlib.Core.List.{List, [], _∷_, _++_, map, reverse}
 use Prim.Native.Nat.{ℕ, zero, suc, _+_, _-_, min}
-use lib.Dec.{ltb, leb, eqb}
-use lib.ListN.{length, getD, set, take, drop, replicate}
+use lib.Dec.{ltb, eqb}
+use lib.ListN.{length, set, take, drop, replicate}
 use Rattle.std.specs.Finite.{nth}
 use Rattle.std.specs.Iters.{counting}
 use Rattle.std.specs.declared.option.Option.{Option}
 use Rattle.std.specs.declared.option.Option.the-variants.{Some, None}
-use Rattle.std.specs.declared.result.Result.the-variants.{Ok}
 use Rattle.stack.specs.Entries.{tail}
 use Rattle.values.specs.Cells.{kind}
 use Rattle.values.specs.declared.cells.Cell.{Cell}
@@ -22,7 +21,7 @@ use Rattle.model.specs.declared.registers.FreeList.{FreeList}
 use Rattle.model.specs.declared.registers.Phase.{Phase}
 use Rattle.model.specs.declared.registers.Phase.the-variants as P
 use Rattle.model.specs.Answers.{name-of}
-use Rattle.model.specs.Heap.{Heap, Mem, Done, granted, refused, limit, at, put, part, with-phase, with-roots, with-list, with-pending, with-free, with-mem}
+use Rattle.model.specs.Heap.{Heap, Mem, Done, granted, refused, limit, at, put, with-phase, with-roots, with-list, with-pending, with-free, with-mem}
 use Rattle.model.specs.Words.{normal, normal-all, offered, offered-all, marked, unmarked, with-part, with-parts, moved-to, last-free}
 
 -- ---- begin

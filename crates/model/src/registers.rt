@@ -6,13 +6,26 @@ use values::Value;
 pub enum Phase {
     Rest,
     // The next root and the next slot to offer, and whether cells move in this cycle.
-    Mark { root: usize, slot: usize, moving: bool },
+    Mark {
+        root: usize,
+        slot: usize,
+        moving: bool,
+    },
     // The lowest place that may take a cell, and the place after the last that may give one.
-    Relocate { low: u32, high: u32 },
+    Relocate {
+        low: u32,
+        high: u32,
+    },
     // The next root, place and slot whose values are brought up to date.
-    Update { root: usize, place: u32, slot: usize },
+    Update {
+        root: usize,
+        place: u32,
+        slot: usize,
+    },
     // The next place to sweep.
-    Reclaim { sweep: u32 },
+    Reclaim {
+        sweep: u32,
+    },
 }
 
 // The ends of the free list, which runs through the first components.

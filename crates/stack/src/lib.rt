@@ -41,7 +41,7 @@ pub fn pop<T: Copy>(slots: &[T], height: &mut usize) -> Option<T>
 // The entry at `depth` below the top.
 pub fn peek<T: Copy>(slots: &[T], height: usize, depth: usize) -> Option<T>
     ensures value { λ r. ⌜ r ≡ nth (stacked height (now (slots .entry))) depth ⌝ }
-    ensures there { λ r. ⌜ Cases r (length (stacked height (now (slots .entry))) ≤ depth) (λ _. depth < length (stacked height (now (slots .entry)))) ⌝ }
+    ensures there { λ r. ⌜ Cases r (min height (length (now (slots .entry))) ≤ depth) (λ _. depth < min height (length (now (slots .entry)))) ⌝ }
 {
     let used = height.min(slots.len());
     if depth < used {
@@ -69,7 +69,7 @@ pub fn replace<T: Copy>(slots: &mut [T], height: usize, depth: usize, x: T) -> b
 // The entry in slot `index`, counted from the bottom.
 pub fn slot<T: Copy>(slots: &[T], height: usize, index: usize) -> Option<T>
     ensures value { λ r. ⌜ r ≡ nth (reverse (stacked height (now (slots .entry)))) index ⌝ }
-    ensures there { λ r. ⌜ Cases r (length (stacked height (now (slots .entry))) ≤ index) (λ _. index < length (stacked height (now (slots .entry)))) ⌝ }
+    ensures there { λ r. ⌜ Cases r (min height (length (now (slots .entry))) ≤ index) (λ _. index < min height (length (now (slots .entry)))) ⌝ }
 {
     let used = height.min(slots.len());
     if index < used {
@@ -106,7 +106,7 @@ pub fn discard<T: Copy>(slots: &[T], height: &mut usize, count: usize)
 // The top two entries, the lower first.
 pub fn last_two<T: Copy>(slots: &[T], height: usize) -> Option<[T; 2]>
     ensures value { λ r. ⌜ r ≡ last-of 2 (stacked height (now (slots .entry))) ⌝ }
-    ensures there { λ r. ⌜ Cases r (length (stacked height (now (slots .entry))) < 2) (λ _. 2 ≤ length (stacked height (now (slots .entry)))) ⌝ }
+    ensures there { λ r. ⌜ Cases r (min height (length (now (slots .entry))) < 2) (λ _. 2 ≤ min height (length (now (slots .entry)))) ⌝ }
 {
     let top = peek(slots, height, 0)?;
     let below = peek(slots, height, 1)?;
