@@ -1,5 +1,10 @@
 -- Answers and refusals: their numbers and printed words.
+use mathlib.Core.Bool.{Bool, true, false}
+use mathlib.Core.List.{List}
 use Prim.Native.Nat.{ℕ}
+use lib.Chars.{codes}
+use Rattle.model.specs.declared.answers.Looked.{Looked}
+use Rattle.model.specs.declared.answers.Looked.the-variants as L
 use Rattle.model.specs.declared.answers.PhaseName.{PhaseName}
 use Rattle.model.specs.declared.answers.PhaseName.the-variants as N
 use Rattle.model.specs.declared.answers.Refusal.{Refusal}
@@ -24,3 +29,20 @@ name-of (P.Mark root slot moving) = N.Mark
 name-of (P.Relocate low high) = N.Relocate
 name-of (P.Update root place slot) = N.Update
 name-of (P.Reclaim sweep) = N.Reclaim
+
+-- The word by which a phase is printed.
+abbrev pub phase-word : PhaseName → List ℕ
+phase-word N.Rest = codes "rest"
+phase-word N.Mark = codes "mark"
+phase-word N.Relocate = codes "relocate"
+phase-word N.Update = codes "update"
+phase-word N.Reclaim = codes "reclaim"
+
+abbrev pub looked-word : Looked → List ℕ
+looked-word L.Nil = codes "nil"
+looked-word (L.Number x) = codes "number"
+looked-word L.Cell = codes "cell"
+
+abbrev pub same-word : Bool → List ℕ
+same-word true = codes "yes"
+same-word false = codes "no"

@@ -1,6 +1,6 @@
 // What a call answers, and why one is refused.
 ghost use mathlib.Core.Path.{_≡_};
-ghost use Rattle.model.specs.Answers.{number-of};
+ghost use Rattle.model.specs.Answers.{number-of, phase-word, looked-word, same-word};
 
 // Why a call is refused; a refused call changes nothing.
 #[derive(Clone, Copy)]
@@ -61,4 +61,33 @@ pub enum Answer {
     Look(Looked),
     Step(Stepped),
     Census(usize),
+}
+
+// The words of the answers, as they are printed.
+pub fn phase_word(phase: PhaseName) -> &'static str
+    ensures { λ r. ⌜ now r ≡ phase-word phase ⌝ }
+{
+    match phase {
+        PhaseName::Rest => "rest",
+        PhaseName::Mark => "mark",
+        PhaseName::Relocate => "relocate",
+        PhaseName::Update => "update",
+        PhaseName::Reclaim => "reclaim",
+    }
+}
+
+pub fn looked_word(looked: Looked) -> &'static str
+    ensures { λ r. ⌜ now r ≡ looked-word looked ⌝ }
+{
+    match looked {
+        Looked::Nil => "nil",
+        Looked::Number(_) => "number",
+        Looked::Cell => "cell",
+    }
+}
+
+pub fn same_word(same: bool) -> &'static str
+    ensures { λ r. ⌜ now r ≡ same-word same ⌝ }
+{
+    if same { "yes" } else { "no" }
 }
