@@ -1,0 +1,4 @@
+pub mod Fronts
+pub mod Turns
+pub mod Written
+pub mod Law

@@ -1,0 +1,5 @@
+pub mod Format
+pub mod Faults
+pub mod Reading
+pub mod Whole
+pub mod Law
