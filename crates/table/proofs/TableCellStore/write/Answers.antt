@@ -1,4 +1,4 @@
-use mathlib.Core.Path.{sym, ap, _∙_}
+use mathlib.Core.Path.{refl, sym, ap, _∙_}
 use mathlib.Core.List.{map}
 use Prim.Native.Nat.{_≤_}
 use lib.ListN.{length, set}
@@ -9,10 +9,14 @@ use Rattle.table.proofs.TableCellStore.write.Needs as need
 pub returns-then-i-self : need.returns-then-i-self
 returns-then-i-self c =
     let xs = c .args .self .now .cells .now in
-    map-set meant-cell xs _ _ ∙ ap (set (map meant-cell xs) (c .args .place)) (c .record-of-kept .ensures .back)
+    record {
+      cells = map-set meant-cell xs _ _ ∙ ap (set (map meant-cell xs) (c .args .place)) (c .record-of-kept .ensures .back);
+      exact = ap (set xs (c .args .place)) (c .record-of-kept .ensures .value);
+      tied = refl;
+    }
 
 pub returns-else-i-self : need.returns-else-i-self
 returns-else-i-self c =
     let xs = c .args .self .now .cells .now in
     let h : length (map meant-cell xs) ≤ c .args .place = simp length-map (c .if-i-self .left) in
-    sym (set-past _ _ _ h)
+    record { cells = sym (set-past _ _ _ h); exact = sym (set-past xs _ _ (c .if-i-self .left)); tied = refl }
