@@ -21,7 +21,7 @@ fn phase_name(phase: Phase) -> PhaseName
 }
 
 // The answer of a step that left these registers.
-pub fn done(regs: &Registers, returned: bool) -> Result<Stepped, Refusal>
+pub(crate) fn done(regs: &Registers, returned: bool) -> Result<Stepped, Refusal>
     ensures { λ r. ⌜ r ≡ Ok (record { phase = name-of (now (regs .entry) .phase); returned = returned }) ⌝ }
 {
     Ok(Stepped {

@@ -1,4 +1,4 @@
-// The collector: a cycle begins, and goes on by steps, each at one place, root or slot.
+// The collector: begin starts a cycle, and step goes on with it.
 mod answers;
 mod begins;
 mod stepping;

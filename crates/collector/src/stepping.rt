@@ -1,4 +1,4 @@
-// Step: the first line of the phase that applies.
+// Step: the cycle goes on by one place, root or slot.
 ghost use mathlib.Core.Path.{_≡_};
 ghost use Rattle.model.specs.Heap.{Done, view};
 ghost use Rattle.model.specs.Steps.{step};
@@ -23,6 +23,8 @@ use store::CellStore;
 use values::Kind;
 use values::kind_of;
 
+// Does the first thing of its phase that is left to do. The cursors stand in the registers, and are lent from there:
+// one is moved on before a call that takes the registers whole.
 pub fn step<S: CellStore>(top: &Top, regs: &mut Registers, s: &mut S) -> Result<Stepped, Refusal>
     ensures { λ r. ⌜ _≡_ {A = Done SteppedT} (record { says = r; heap = view (now (top .entry)) (now (regs .exit)) (meaning (now (s .exit))) }) (step (view (now (top .entry)) (now (regs .entry)) (meaning (now (s .entry))))) ⌝ }
 {

@@ -21,5 +21,5 @@ pub fn session_count() -> usize
     ensures value { λ r. ⌜ r ≡ length sessions ⌝ }
     ensures hold { λ _. ⌜ Sessions-hold ⌝ }
 {
-    8
+    31
 }

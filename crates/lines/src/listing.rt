@@ -29,12 +29,14 @@ const LIMIT: u64 = 65_536;
 fn write_fault<W: Write>(out: &mut W, fault: ProgramFault<'_>) -> io::Result<()>
     ensures { λ r. ⌜ made r (λ _. isSome (fault .entry .report) ≡ true) ⌝ }
 {
-    let Some(Report {
-        number,
-        place,
-        kind,
-        layer,
-    }) = fault.report
+    let Some(
+        Report {
+            number,
+            place,
+            kind,
+            layer,
+        },
+    ) = fault.report
     else {
         return Err(AllocError.into());
     };

@@ -32,9 +32,10 @@ loop-taken-again g c =
     let xs = vec-items (c .loop-taken .played) in
     let ys = vec-items (c .push-reserved .last .self) in
     let x : Played = record { place = r .place; «record» = t .«record»; outcome = c .play-record-outcome .result } in
-    let put : ys ≡ xs ++ (x ∷ []) = c .push-reserved .ensures .items ∙ ap (λ zs. zs ++ (x ∷ [])) (c .reserve .ensures .items) in
-    (onto-played xs ys x (r .tape .now) (t .rest .tape .now) (t .rest .place) put (search needs) ∙ c .loop-taken .inv .0,
-     came-more xs ys x put (c .play-record-outcome .ensures) (c .loop-taken .inv .1))
+    let put : ys ≡ xs ++ (x ∷ []) = c .push-reserved .ensures .items ∙ ap (λ zs. zs ++ (x ∷ [])) (c .reserve .ensures .items) in (
+      onto-played xs ys x (r .tape .now) (t .rest .tape .now) (t .rest .place) put (search needs) ∙ c .loop-taken .inv .0,
+      came-more xs ys x put (c .play-record-outcome .ensures) (c .loop-taken .inv .1),
+    )
 
 pub returns-in-Break-taken : need.returns-in-Break-taken
 returns-in-Break-taken g c =
