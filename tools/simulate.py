@@ -247,7 +247,7 @@ class Heap:
 KINDS = [
     ("nil", 0), ("number", 4), ("load", 1), ("store", 1), ("create", 0), ("select", 1), ("clobber", 1), ("identical", 0),
     ("look", 0), ("popitem", 0), ("pdlget", 1), ("pdlput", 1), ("begin", 1), ("step", 0), ("census", 0), ("note", 12),
-]  # fmt: skip
+]
 
 
 def play(heap, name, body):

@@ -8,6 +8,7 @@ ghost use Rattle.lines.specs.Listing.{Ends-in-program, Listed, Listed-some, Pl
 ghost use Rattle.player.specs.Plays.{Plays};
 use crate::faults::ProgramFault;
 use crate::faults::ProgramFromPlay;
+use crate::faults::layer_word;
 use crate::granted::LineDisplay;
 use crate::granted::line_of;
 use player::Played;
@@ -20,7 +21,6 @@ use std::io::BufWriter;
 use std::io::Read;
 use std::io::Write;
 use store::CellStore;
-use tape::Layer;
 
 // How much of standard input is the tape.
 const LIMIT: u64 = 65_536;
@@ -40,10 +40,7 @@ fn write_fault<W: Write>(out: &mut W, fault: ProgramFault<'_>) -> io::Result<()>
     else {
         return Err(AllocError.into());
     };
-    let word = match layer {
-        Layer::Heap => "no",
-        Layer::Tape => "bad",
-    };
+    let word = layer_word(layer);
     writeln!(out, "{place} {kind} {word} {number}")
 }
 
@@ -66,8 +63,7 @@ fn play_tape<'a, S: CellStore>(
     ensures ends { λ r. ⌜ Ends-in-program (now (tape .entry)) (vec-items (now (played .exit))) r ⌝ }
     ensures law { λ _. ⌜ Plays (meaning (now (s .entry))) (meaning (now (s .exit))) (vec-items (now (played .exit))) ⌝ }
 {
-    let count = play(s, tape, played)?;
-    Ok(count)
+    Ok(play(s, tape, played)?)
 }
 
 // Plays a tape on a heap over a store, writes a line for each record and one with the number of whole records, and answers that number.
@@ -98,7 +94,7 @@ pub fn run<S: CellStore>(rt: &LibcRuntime, s: &mut S) -> io::Result<usize>
     let mut tape = Vec::new(rt.alloc());
     let _ = rt.stdin().take(LIMIT).read_to_end(&mut tape)?;
     let mut out = BufWriter::new(rt.stdout());
-    let count = list_tape(rt.alloc(), &mut out, s, tape.as_slice())?;
+    let records = list_tape(rt.alloc(), &mut out, s, tape.as_slice())?;
     out.flush()?;
-    Ok(count)
+    Ok(records)
 }

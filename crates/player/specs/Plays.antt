@@ -25,7 +25,7 @@ use Rattle.player.specs.Outcomes.{Suits, logged}
 
 -- The records, each with its place.
 abbrev pub records-of : List Played → List (ℕ × Entry)
-records-of xs = map (λ (x : Played). (x .place, entry-of (x .«record»))) xs
+records-of played = map (λ (x : Played). (x .place, entry-of (x .«record»))) played
 
 -- The call that a played record asked for.
 abbrev pub asked : Played → Option Call
@@ -33,20 +33,23 @@ asked x = call-of (entry-of (x .«record»))
 
 -- The calls with their results, in order; notes are left out.
 abbrev pub events-of : List Played → List Event
-events-of xs = joined (λ (x : Played). logged (asked x) (x .outcome)) xs
+events-of played = joined (λ (x : Played). logged (asked x) (x .outcome)) played
 
--- Calls were granted or refused and notes passed on; and these calls with these results are a run on a heap opened over the cells before,
--- which left the cells after. So they obey the law, and the cells in use number what they say.
+-- The store held the cells before and holds the cells after.
 pub record Plays (before after : List Cell) (played : List Played) : Type 0 where
+  -- Every call was granted or refused, and every note passed on.
   pub suits : All (λ (x : Played). Suits (asked x) (x .outcome)) played
+  -- Exactly these calls were made of a heap opened over the store, with these results; they obey the law, and the cells in use number what they say.
   pub ran : Ran before after (events-of played) (events-of played)
 
--- ---- how far it came
+-- ---- how far it came, by the result
 
--- By the result: all records of the tape were played, and are counted; or the reader's fault stopped the playing after those before it,
--- and no refused call did; or memory wanted, and they are the first of the tape's records.
 abbrev pub Ends : List ℕ → List Played → Result ℕ PlayFault → Type 0
+-- All records of the tape were played, and n is their number.
 Ends t played (Ok n) = (read-whole t ≡ record { records = records-of played; fault = None }) × (n ≡ length played)
+-- The reader's fault stopped the playing, after all records before it.
 Ends t played (Err (F.Tape f)) = read-whole t ≡ record { records = records-of played; fault = Some (fault-of f) }
+-- A refused call stops nothing.
 Ends t played (Err (F.Heap c)) = ⊥
+-- Memory wanted: the first of the tape's records were played.
 Ends t played (Err F.NoMemory) = (left : List (ℕ × Entry)) × (records-of played ++ left ≡ read-whole t .records)

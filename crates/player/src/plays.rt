@@ -38,8 +38,8 @@ fn play_record<S: CellStore>(
 }
 
 // Opens a heap over a store, whatever its cells hold, and plays the tape's records in order; a refused call stops nothing.
-// `played` has afterwards the records played and no others, which the answer counts. Room for a record is made before it is played, so that a call
-// is never made of which nothing is kept.
+// Afterwards `played` has the records that were played, and no others. Room for a record is made before it is played, so that no call is made
+// of which nothing is kept.
 pub fn play<'a, S: CellStore>(
     s: &mut S,
     tape: &'a [u8],
