@@ -1,4 +1,6 @@
 // The heap's access to its places, and its two words, normalise and offer, over any store.
+#![tactic(auto)]
+
 mod access;
 mod normal;
 mod offers;

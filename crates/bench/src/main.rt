@@ -1,5 +1,7 @@
 // Makes a run of calls on a heap of 4,096 cells, to count what a call costs.
 // Standard input says which: 't' or 'p' for the store or 'n' for no run at all, 'l' or 's' for list calls or whole cycles, and then a byte for each round.
+#![tactic(auto)]
+
 mod rounds;
 
 use model::Event;

@@ -1,4 +1,6 @@
 // The collector: begin starts a cycle, and step goes on with it.
+#![tactic(auto)]
+
 mod answers;
 mod begins;
 mod stepping;

@@ -1,4 +1,6 @@
 // The calls on cells and their components, over any store. Each contract is the call's rule in the model.
+#![tactic(auto)]
+
 mod clobbers;
 mod creates;
 mod parts;

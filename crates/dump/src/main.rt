@@ -1,4 +1,6 @@
 // Lists the records of the tape on standard input, one to a line.
+#![tactic(auto)]
+
 use input::read_tape;
 use std::io::{BufWriter, Write};
 use std::{fmt, io};

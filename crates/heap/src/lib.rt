@@ -1,4 +1,6 @@
 // The heap: every call as one function, and runs of calls, which obey the law.
+#![tactic(auto)]
+
 mod every;
 mod runs;
 

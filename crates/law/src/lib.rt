@@ -1,4 +1,6 @@
 // The law over runs and the worked sessions, as theorems about the rules.
+#![tactic(auto)]
+
 ghost use Rattle.std.specs.Prelude.{◌≡◌, ◌+◌, ◌*◌, length};
 ghost use Rattle.law.specs.Law.{EveryRunIsLawful};
 ghost use Rattle.law.specs.Live.{LiveIsRight};

@@ -1,4 +1,6 @@
 // The lines that a played tape is printed as, and the programs' main function.
+#![tactic(auto)]
+
 mod faults;
 mod granted;
 mod listing;

@@ -1,4 +1,6 @@
 // The calls on the list and the roots, over any store. Each contract is the call's rule in the model.
+#![tactic(auto)]
+
 mod pops;
 mod pushes;
 mod questions;

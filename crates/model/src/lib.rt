@@ -1,4 +1,6 @@
 // The heap's registers, its calls and their answers; specs/ has the rules.
+#![tactic(auto)]
+
 mod answers;
 mod calls;
 mod registers;

@@ -1,5 +1,7 @@
 // The packed store: cells in the caller's bytes, eight to each whole group of 83.
 // The bytes after the last whole group are never touched; fewer than 83 bytes hold no cell.
+#![tactic(auto)]
+
 mod bits;
 mod groups;
 mod words;

@@ -1,4 +1,6 @@
 // Plays the tape on standard input on a heap over a table of 1,024 cells, and prints a line for each record.
+#![tactic(auto)]
+
 ghost use Rattle.std.specs.Prelude.{replicate, IfOk};
 ghost use Rattle.values.specs.Cells.{blank};
 ghost use Rattle.lines.specs.Listing.{ListedOver};

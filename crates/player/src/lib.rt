@@ -1,4 +1,6 @@
 // The player: makes the calls of a tape of a heap, and keeps what became of each record.
+#![tactic(auto)]
+
 mod calls;
 mod faults;
 mod outcomes;

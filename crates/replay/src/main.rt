@@ -1,4 +1,6 @@
 // Plays the tape on standard input as `play` does, on a heap over a packed store of 40 cells.
+#![tactic(auto)]
+
 ghost use Rattle.std.specs.Prelude.{replicate, IfOk};
 ghost use Rattle.values.specs.Cells.{blank};
 ghost use Rattle.lines.specs.Listing.{ListedOver};

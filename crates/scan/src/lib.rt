@@ -1,4 +1,6 @@
 // The two calls that go over every place: the opening, and the census.
+#![tactic(auto)]
+
 mod counts;
 mod opening;
 

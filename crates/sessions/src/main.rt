@@ -1,4 +1,6 @@
 // Runs worked sessions over both stores, compares each answer with the one expected, and prints what it did.
+#![tactic(auto)]
+
 mod compare;
 mod scripts;
 

@@ -1,6 +1,8 @@
 // A pushdown list in the lowest slots of a lent slice, with its height. Depth 0 is the top entry, index 0 the bottom slot.
 // No height is refused: one past the end of the slice counts as the slice's length.
 // The clauses `there` follow from `value`; they tell a caller at once in which case it is.
+#![tactic(auto)]
+
 ghost use Rattle.std.specs.Prelude.{◌≡◌, ◌+◌, ◌-◌, ◌<◌, ◌≤◌, min, ◌∷◌, reverse, length, drop, if◌then◌else◌, MatchOption, nat_lt, slice_set};
 ghost use Rattle.std.specs.List.{slice_get};
 ghost use Rattle.stack.specs.Entries.{stacked, tail, last_of};

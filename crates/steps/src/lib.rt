@@ -1,4 +1,6 @@
 // What a step of the collector does to one place, over any store.
+#![tactic(auto)]
+
 mod marks;
 mod moves;
 mod returns;

@@ -1,4 +1,6 @@
 // The cell store: what the heap asks of the memory that holds its cells.
+#![tactic(auto)]
+
 ghost use Rattle.std.specs.Prelude.{◌≡◌, List, length, get_or, set};
 ghost use Rattle.values.specs.Cells.{blank};
 ghost use Rattle.values.specs.declared.cells.Cell.{Cell as CellT};

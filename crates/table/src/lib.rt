@@ -1,4 +1,6 @@
 // The table store: cells in the caller's table of plain records.
+#![tactic(auto)]
+
 ghost use Rattle.std.specs.Prelude.{◌≡◌, map, length, slice_index_or, slice_set};
 ghost use Rattle.values.specs.Cells.{blank};
 ghost use Rattle.values.specs.Records.{meant_cell, plain_cell};

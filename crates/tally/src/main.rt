@@ -1,6 +1,8 @@
 // Makes the calls of a tape on a heap, to count what a call costs, and prints how many there were and how many were granted.
 // Standard input begins with two letters: the store, 't' for a table, 'p' for a packed store or 'n' where no call is to be made; and
 // its size, 's' for 64 cells or 'l' for 4,096. The tape follows.
+#![tactic(auto)]
+
 mod calls;
 
 use model::Event;

@@ -1,4 +1,6 @@
 // The tape: its records, the reader that takes them off one by one, and the faults that end the reading.
+#![tactic(auto)]
+
 mod faults;
 mod reader;
 mod records;

@@ -1,4 +1,6 @@
 // Values and cells, and the plain forms in which memory keeps them.
+#![tactic(auto)]
+
 mod cells;
 mod numbers;
 mod records;
