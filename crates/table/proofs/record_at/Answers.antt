@@ -9,4 +9,4 @@ returns-then-i-cells c = record { value = sym (get_or-map meant_cell _ _ _ _ c.i
 pub returns-else-i-cells : goal.returns-else-i-cells
 returns-else-i-cells c =
     let h : length (map meant_cell c.args.cells.now) ≤ c.args.place = simp length-map c.if-i-cells.false in
-    record { value = c.record-of.ensures.back ∙ c.blank-cell.ensures ∙ sym (get_or_past _ _ _ h); same = refl }
+    record { value = c.record_of.ensures.back ∙ c.blank_cell.ensures ∙ sym (get_or_past _ _ _ h); same = refl }

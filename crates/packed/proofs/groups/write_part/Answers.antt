@@ -13,7 +13,7 @@ returns c =
     let g : c.args.place / 8 < length bs / group_size = omega arith in
     record {
       after =
-          put_mid-paste _ _ bs _ five 5 (c.copy-from-slice.ensures.after ∙ e) (omega arith) refl
-          ∙ sym (sets-eq five bs c.part-place-at.result (omega arith)) ∙ ap (λ k. sets bs k five) c.part-place-at.ensures;
+          put_mid-paste _ _ bs _ five 5 (c.copy_from_slice.ensures.after ∙ e) (omega arith) refl
+          ∙ sym (sets-eq five bs c.part_place-at.result (omega arith)) ∙ ap (λ k. sets bs k five) c.part_place-at.ensures;
       back = ap value_in (sym e) ∙ c.value_bytes.ensures.back;
     }

@@ -26,11 +26,11 @@ loop-taken-preserved g c =
     let r = c.loop-taken.rest in
     let t = c.in-Some.taken in
     let xs = vec_items c.loop-taken.played in
-    let ys = vec_items c.push-reserved.new.self in
-    let x : Played = record { place = r.place; «record» = t.«record»; outcome = c.play-record-outcome.result } in
-    let put : ys ≡ xs ++ (x ∷ []) = c.push-reserved.ensures.items ∙ ap (λ zs. zs ++ (x ∷ [])) c.reserve.ensures.items in (
+    let ys = vec_items c.push_reserved.new.self in
+    let x : Played = record { place = r.place; «record» = t.«record»; outcome = c.play_record-outcome.result } in
+    let put : ys ≡ xs ++ (x ∷ []) = c.push_reserved.ensures.items ∙ ap (λ zs. zs ++ (x ∷ [])) c.reserve.ensures.items in (
       onto_played xs ys x r.tape.now t.rest.tape.now t.rest.place put (search rules) ∙ c.loop-taken.invariant.0,
-      came_more xs ys x put c.play-record-outcome.ensures c.loop-taken.invariant.1,
+      came_more xs ys x put c.play_record-outcome.ensures c.loop-taken.invariant.1,
     )
 
 pub returns-in-err-taken : goal.returns-in-err-taken

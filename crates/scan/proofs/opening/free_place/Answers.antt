@@ -9,5 +9,5 @@ returns g c =
     let n = c.args.n in
     let p = c.args.place in
     let m = g.S.CellStore.meaning in
-    let exact : m c.write-place.new.s ≡ cells_with (m c.args.s.now) p (free_cell n p) = cc in
+    let exact : m c.write_place.new.s ≡ cells_with (m c.args.s.now) p (free_cell n p) = cc in
     record { exact = exact; next = λ cells h e. exact ∙ ap (λ before. cells_with before p (free_cell n p)) e ∙ fill_more (free_cell n) p cells h }

@@ -6,7 +6,7 @@ pub returns-in-1 : goal.returns-in-1
 returns-in-1 c = front_split c.args.tape.now 1 (search rules) refl (search rules)
 
 pub returns-in-2 : goal.returns-in-2
-returns-in-2 c = rw c.big-endian.ensures (front_split c.args.tape.now 2 (search rules) refl (search rules))
+returns-in-2 c = rw c.big_endian.ensures (front_split c.args.tape.now 2 (search rules) refl (search rules))
 
 pub returns-in-3 : goal.returns-in-3
 returns-in-3 c = front_split c.args.tape.now 3 (search rules) refl (search rules)

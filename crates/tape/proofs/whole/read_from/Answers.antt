@@ -26,7 +26,7 @@ returns-in-Ok-None c =
     let r = c.reading.rest in
     let rs = map placed (vec_items c.reading.records) in
     let is : record { records = rs; fault = None } ≡ read_from c.args.tape.now c.args.place = onto_last rs r.tape.now r.place ended None (search rules) refl ∙ c.reading.invariant in
-    record { read = is; law = law _ _ _ (λ i. (c.type-inv.tape i).fits) c.requires is }
+    record { read = is; law = law _ _ _ (λ i. (c.type_inv.tape i).fits) c.requires is }
 
 pub returns-in-Err : goal.returns-in-Err
 returns-in-Err c =
@@ -34,4 +34,4 @@ returns-in-Err c =
     let rs = map placed (vec_items c.reading.records) in
     let f = fault_of c.in-Err.fault in
     let is = onto_last rs r.tape.now r.place (bad f) (Some f) c.in-Err.ensures refl ∙ c.reading.invariant in
-    record { read = is; law = law _ _ _ (λ i. (c.type-inv.tape i).fits) c.requires is }
+    record { read = is; law = law _ _ _ (λ i. (c.type_inv.tape i).fits) c.requires is }

@@ -8,6 +8,6 @@ pub returns : goal.returns
 returns c =
     let l : length c.args.parts ≡ 2 = search rules in
     record {
-      value = pair_map plain_value c.args.parts V.Nil l c.plain-of.ensures.value c.plain-of-2.ensures.value;
-      back = pair c.args.parts V.Nil l c.plain-of.ensures.back c.plain-of-2.ensures.back;
+      value = pair_map plain_value c.args.parts V.Nil l c.plain_of.ensures.value c.plain_of-2.ensures.value;
+      back = pair c.args.parts V.Nil l c.plain_of.ensures.back c.plain_of-2.ensures.back;
     }

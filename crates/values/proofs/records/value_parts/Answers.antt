@@ -7,4 +7,4 @@ use Rattle.values.proofs.records.value_parts.Goals as goal
 pub returns : goal.returns
 returns c =
     let l : length c.args.parts ≡ 2 = search rules in
-    pair_map meant_value c.args.parts P.Nil l c.value-of.ensures c.value-of-2.ensures
+    pair_map meant_value c.args.parts P.Nil l c.value_of.ensures c.value_of-2.ensures
