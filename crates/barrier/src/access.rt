@@ -11,7 +11,7 @@ const MOST_PLACES: u32 = 4096;
 
 // N, the number of places.
 pub fn places<S: CellStore>(s: &S) -> u32
-    ensures { result ≡ min 4096 (length (meaning s.now)) }
+    ensures { result ≡ min 4096 (length (S.meaning s.now)) }
 {
     (MOST_PLACES as usize).min(s.count()) as u32
 }
@@ -26,8 +26,8 @@ fn in_reach(place: u32) -> bool
 
 // The cell at a place; blank from N up.
 pub fn read_place<S: CellStore>(s: &mut S, place: u32) -> Cell
-    ensures value { result ≡ cell_in (meaning s.old) place }
-    ensures same { meaning s.new ≡ meaning s.old }
+    ensures value { result ≡ cell_in (S.meaning s.old) place }
+    ensures same { S.meaning s.new ≡ S.meaning s.old }
 {
     if in_reach(place) {
         s.read(place)
@@ -38,7 +38,7 @@ pub fn read_place<S: CellStore>(s: &mut S, place: u32) -> Cell
 
 // Replaces the cell at a place and no other; from N up nothing is written.
 pub fn write_place<S: CellStore>(s: &mut S, place: u32, cell: Cell)
-    ensures { meaning s.new ≡ cells_with (meaning s.old) place cell }
+    ensures { S.meaning s.new ≡ cells_with (S.meaning s.old) place cell }
 {
     if in_reach(place) {
         s.write(place, cell);

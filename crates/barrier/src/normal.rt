@@ -8,8 +8,8 @@ use store::CellStore;
 use values::{Kind, Value, kind_of};
 
 pub fn normalise<S: CellStore>(s: &mut S, v: Value) -> Value
-    ensures value { result ≡ normal (memory (meaning s.old)) v }
-    ensures same { meaning s.new ≡ meaning s.old }
+    ensures value { result ≡ normal (memory (S.meaning s.old)) v }
+    ensures same { S.meaning s.new ≡ S.meaning s.old }
 {
     let Value::Cell(place) = v else {
         return v;
@@ -23,8 +23,8 @@ pub fn normalise<S: CellStore>(s: &mut S, v: Value) -> Value
 
 // Normalises all components of a cell.
 pub fn normalise_all<S: CellStore>(s: &mut S, mut parts: [Value; 2]) -> [Value; 2]
-    ensures value { result ≡ normal_all (memory (meaning s.old)) parts }
-    ensures same { meaning s.new ≡ meaning s.old }
+    ensures value { result ≡ normal_all (memory (S.meaning s.old)) parts }
+    ensures same { S.meaning s.new ≡ S.meaning s.old }
 {
     parts[0] = normalise(s, parts[0]);
     parts[1] = normalise(s, parts[1]);

@@ -10,7 +10,7 @@ use values::{Cell, Kind, Value, kind_of};
 
 // Offers a value; a full collector stack takes no more. `top` is there for the contract, which speaks of the whole heap.
 pub fn offer<S: CellStore>(top: &Top, regs: &mut Registers, s: &mut S, v: Value)
-    ensures { view top.now regs.new (meaning s.new) ≡ offered v (view top.now regs.old (meaning s.old)) }
+    ensures { view top.now regs.new (S.meaning s.new) ≡ offered v (view top.now regs.old (S.meaning s.old)) }
 {
     let Phase::Mark { .. } = regs.phase else {
         return;
@@ -39,7 +39,7 @@ pub fn offer<S: CellStore>(top: &Top, regs: &mut Registers, s: &mut S, v: Value)
 
 // Offers all components of a cell, the first one first.
 pub fn offer_all<S: CellStore>(top: &Top, regs: &mut Registers, s: &mut S, parts: [Value; 2])
-    ensures { view top.now regs.new (meaning s.new) ≡ offered_all parts (view top.now regs.old (meaning s.old)) }
+    ensures { view top.now regs.new (S.meaning s.new) ≡ offered_all parts (view top.now regs.old (S.meaning s.old)) }
 {
     offer(top, regs, s, parts[0]);
     offer(top, regs, s, parts[1]);

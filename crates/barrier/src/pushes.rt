@@ -16,7 +16,7 @@ pub fn push_value<S: CellStore>(
     s: &mut S,
     v: Value,
 ) -> Result<(), Refusal>
-    ensures { ◌≡◌ {A = Done (Unit {0})} (record { says = result; heap = view top.new regs.new (meaning s.new) }) (push v (view top.old regs.old (meaning s.old))) }
+    ensures { ◌≡◌ {A = Done (Unit {0})} (record { says = result; heap = view top.new regs.new (S.meaning s.new) }) (push v (view top.old regs.old (S.meaning s.old))) }
 {
     let normal = normalise(s, v);
     if stack::push(&mut regs.list, &mut top.height, normal) {

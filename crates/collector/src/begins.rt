@@ -13,7 +13,7 @@ pub fn begin<S: CellStore>(
     s: &S,
     moving: u8,
 ) -> Result<(), Refusal>
-    ensures { ◌≡◌ {A = Done (Unit {0})} (record { says = result; heap = view top.now regs.new (meaning s.now) }) (begin moving (view top.now regs.old (meaning s.now))) }
+    ensures { ◌≡◌ {A = Done (Unit {0})} (record { says = result; heap = view top.now regs.new (S.meaning s.now) }) (begin moving (view top.now regs.old (S.meaning s.now))) }
 {
     if moving > 1 {
         return Err(Refusal::OutOfRange);

@@ -14,7 +14,7 @@ use values::{Kind, kind_of};
 // Does the first thing of its phase that is left to do. The cursors stand in the registers, and are lent from there:
 // one is moved on before a call that takes the registers whole.
 pub fn step<S: CellStore>(top: &Top, regs: &mut Registers, s: &mut S) -> Result<Stepped, Refusal>
-    ensures { ◌≡◌ {A = Done SteppedT} (record { says = result; heap = view top.now regs.new (meaning s.new) }) (step (view top.now regs.old (meaning s.old))) }
+    ensures { ◌≡◌ {A = Done SteppedT} (record { says = result; heap = view top.now regs.new (S.meaning s.new) }) (step (view top.now regs.old (S.meaning s.old))) }
 {
     match &mut regs.phase {
         Phase::Rest => Err(Refusal::AtRest),

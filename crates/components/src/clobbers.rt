@@ -16,7 +16,7 @@ pub fn clobber<S: CellStore>(
     s: &mut S,
     component: u8,
 ) -> Result<(), Refusal>
-    ensures { ◌≡◌ {A = Done (Unit {0})} (record { says = result; heap = view top.new regs.new (meaning s.new) }) (clobber component (view top.old regs.old (meaning s.old))) }
+    ensures { ◌≡◌ {A = Done (Unit {0})} (record { says = result; heap = view top.new regs.new (S.meaning s.new) }) (clobber component (view top.old regs.old (S.meaning s.old))) }
 {
     let index = index_of(component)?;
     let Some(two) = stack::last_two(&regs.list, top.height) else {

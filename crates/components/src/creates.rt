@@ -34,7 +34,7 @@ fn shortened(next: Value, free: FreeList) -> Option<FreeList>
 
 // Pops the second component, then the first, and pushes a new cell of them in the first free place.
 pub fn create<S: CellStore>(top: &mut Top, regs: &mut Registers, s: &mut S) -> Result<(), Refusal>
-    ensures { ◌≡◌ {A = Done (Unit {0})} (record { says = result; heap = view top.new regs.new (meaning s.new) }) (create (view top.old regs.old (meaning s.old))) }
+    ensures { ◌≡◌ {A = Done (Unit {0})} (record { says = result; heap = view top.new regs.new (S.meaning s.new) }) (create (view top.old regs.old (S.meaning s.old))) }
 {
     let Some(two) = stack::last_two(&regs.list, top.height) else {
         return Err(Refusal::TooFew);

@@ -14,7 +14,7 @@ fn perform_list<S: CellStore>(
     s: &mut S,
     asked: ListCall,
 ) -> Result<Answer, Refusal>
-    ensures { ◌≡◌ {A = Done AnswerT} (record { says = result; heap = view top.new regs.new (meaning s.new) }) (list_call asked (view top.old regs.old (meaning s.old))) }
+    ensures { ◌≡◌ {A = Done AnswerT} (record { says = result; heap = view top.new regs.new (S.meaning s.new) }) (list_call asked (view top.old regs.old (S.meaning s.old))) }
 {
     match asked {
         ListCall::Nil => lists::nil(top, regs, s)?,
@@ -40,7 +40,7 @@ pub fn perform<S: CellStore>(
     s: &mut S,
     asked: Call,
 ) -> Result<Answer, Refusal>
-    ensures { ◌≡◌ {A = Done AnswerT} (record { says = result; heap = view top.new regs.new (meaning s.new) }) (call asked (view top.old regs.old (meaning s.old))) }
+    ensures { ◌≡◌ {A = Done AnswerT} (record { says = result; heap = view top.new regs.new (S.meaning s.new) }) (call asked (view top.old regs.old (S.meaning s.old))) }
 {
     match asked {
         Call::List(listed) => perform_list(top, regs, s, listed),

@@ -23,7 +23,7 @@ fn make_call<S: CellStore>(
 )
     requires { at < length log.old }
     ensures calls { calls_of log.new ≡ calls_of log.old }
-    ensures next { (start : HeapT) → Follows start (take at log.old) (view top.old regs.old (meaning s.old)) → Follows start (take (at + 1) log.new) (view top.new regs.new (meaning s.new)) }
+    ensures next { (start : HeapT) → Follows start (take at log.old) (view top.old regs.old (S.meaning s.old)) → Follows start (take (at + 1) log.new) (view top.new regs.new (S.meaning s.new)) }
 {
     log[at].answer = perform(top, regs, s, log[at].call);
 }
@@ -35,7 +35,7 @@ fn runs_are_lawful()
 
 // Opens a heap over a store, whatever its cells hold, makes the calls of the log in order, and writes each answer beside its call.
 pub fn run<S: CellStore>(s: &mut S, log: &mut [Event])
-    ensures { Ran (meaning s.old) (meaning s.new) log.old log.new }
+    ensures { Ran (S.meaning s.old) (S.meaning s.new) log.old log.new }
 {
     let Opened { mut top, mut regs } = open(s);
     for at in 0..log.len() {

@@ -48,7 +48,7 @@ fn play_tape<'a, S: CellStore>(
     played: &mut Vec<Played<'a>>,
 ) -> Result<usize, ProgramFault<'a>>
     ensures ends { EndsInProgram tape.now played.new.items result }
-    ensures law { Plays (meaning s.old) (meaning s.new) played.new.items }
+    ensures law { Plays (S.meaning s.old) (S.meaning s.new) played.new.items }
 {
     Ok(play(s, tape, played)?)
 }
@@ -60,8 +60,8 @@ pub fn list_tape<W: Write, S: CellStore>(
     s: &mut S,
     tape: &[u8],
 ) -> io::Result<usize>
-    ensures listed { IfOk result (λ n. Listed tape.now (meaning s.old) (meaning s.new) n) }
-    ensures law { PlayedSome (meaning s.old) (meaning s.new) }
+    ensures listed { IfOk result (λ n. Listed tape.now (S.meaning s.old) (S.meaning s.new) n) }
+    ensures law { PlayedSome (S.meaning s.old) (S.meaning s.new) }
 {
     let mut played = Vec::new(heap);
     let stopped = play_tape(s, tape, &mut played);
@@ -76,8 +76,8 @@ pub fn list_tape<W: Write, S: CellStore>(
 
 // Lists the tape that is the beginning of standard input.
 pub fn run<S: CellStore>(rt: &HostRuntime, s: &mut S) -> io::Result<usize>
-    ensures listed { IfOk result (λ n. ListedSome (meaning s.old) (meaning s.new) n) }
-    ensures within { IfOk result (λ n. ListedWithin (meaning s.old) (meaning s.new) n) }
+    ensures listed { IfOk result (λ n. ListedSome (S.meaning s.old) (S.meaning s.new) n) }
+    ensures within { IfOk result (λ n. ListedWithin (S.meaning s.old) (S.meaning s.new) n) }
 {
     let tape = read_tape(rt)?;
     let mut out = BufWriter::new(rt.alloc(), rt.stdout())?;

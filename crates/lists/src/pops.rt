@@ -14,7 +14,7 @@ pub fn store<S: CellStore>(
     s: &mut S,
     root: u8,
 ) -> Result<(), Refusal>
-    ensures { ◌≡◌ {A = Done (Unit {0})} (record { says = result; heap = view top.new regs.new (meaning s.new) }) (store root (view top.old regs.old (meaning s.old))) }
+    ensures { ◌≡◌ {A = Done (Unit {0})} (record { says = result; heap = view top.new regs.new (S.meaning s.new) }) (store root (view top.old regs.old (S.meaning s.old))) }
 {
     if root as usize >= regs.roots.len() {
         return Err(Refusal::OutOfRange);
@@ -36,7 +36,7 @@ pub fn pdlput<S: CellStore>(
     s: &mut S,
     depth: u8,
 ) -> Result<(), Refusal>
-    ensures { ◌≡◌ {A = Done (Unit {0})} (record { says = result; heap = view top.new regs.new (meaning s.new) }) (pdlput depth (view top.old regs.old (meaning s.old))) }
+    ensures { ◌≡◌ {A = Done (Unit {0})} (record { says = result; heap = view top.new regs.new (S.meaning s.new) }) (pdlput depth (view top.old regs.old (S.meaning s.old))) }
 {
     if depth == 0 {
         return Err(Refusal::OutOfRange);
@@ -55,7 +55,7 @@ pub fn pdlput<S: CellStore>(
 
 // Drops the top value. `s` is there for the contract, which speaks of the whole heap.
 pub fn popitem<S: CellStore>(top: &mut Top, regs: &Registers, s: &S) -> Result<(), Refusal>
-    ensures { ◌≡◌ {A = Done (Unit {0})} (record { says = result; heap = view top.new regs.now (meaning s.now) }) (popitem (view top.old regs.now (meaning s.now))) }
+    ensures { ◌≡◌ {A = Done (Unit {0})} (record { says = result; heap = view top.new regs.now (S.meaning s.now) }) (popitem (view top.old regs.now (S.meaning s.now))) }
 {
     match stack::pop(&regs.list, &mut top.height) {
         Some(_) => Ok(()),

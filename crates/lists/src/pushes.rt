@@ -10,7 +10,7 @@ use values::Value;
 
 // Pushes nil.
 pub fn nil<S: CellStore>(top: &mut Top, regs: &mut Registers, s: &mut S) -> Result<(), Refusal>
-    ensures { ◌≡◌ {A = Done (Unit {0})} (record { says = result; heap = view top.new regs.new (meaning s.new) }) (nil (view top.old regs.old (meaning s.old))) }
+    ensures { ◌≡◌ {A = Done (Unit {0})} (record { says = result; heap = view top.new regs.new (S.meaning s.new) }) (nil (view top.old regs.old (S.meaning s.old))) }
 {
     push_value(top, regs, s, Value::Nil)
 }
@@ -22,7 +22,7 @@ pub fn number<S: CellStore>(
     s: &mut S,
     x: f32,
 ) -> Result<(), Refusal>
-    ensures { ◌≡◌ {A = Done (Unit {0})} (record { says = result; heap = view top.new regs.new (meaning s.new) }) (number x (view top.old regs.old (meaning s.old))) }
+    ensures { ◌≡◌ {A = Done (Unit {0})} (record { says = result; heap = view top.new regs.new (S.meaning s.new) }) (number x (view top.old regs.old (S.meaning s.old))) }
 {
     push_value(top, regs, s, Value::Number(x))
 }
@@ -34,7 +34,7 @@ pub fn load<S: CellStore>(
     s: &mut S,
     root: u8,
 ) -> Result<(), Refusal>
-    ensures { ◌≡◌ {A = Done (Unit {0})} (record { says = result; heap = view top.new regs.new (meaning s.new) }) (load root (view top.old regs.old (meaning s.old))) }
+    ensures { ◌≡◌ {A = Done (Unit {0})} (record { says = result; heap = view top.new regs.new (S.meaning s.new) }) (load root (view top.old regs.old (S.meaning s.old))) }
 {
     if root as usize >= regs.roots.len() {
         return Err(Refusal::OutOfRange);
@@ -49,7 +49,7 @@ pub fn pdlget<S: CellStore>(
     s: &mut S,
     depth: u8,
 ) -> Result<(), Refusal>
-    ensures { ◌≡◌ {A = Done (Unit {0})} (record { says = result; heap = view top.new regs.new (meaning s.new) }) (pdlget depth (view top.old regs.old (meaning s.old))) }
+    ensures { ◌≡◌ {A = Done (Unit {0})} (record { says = result; heap = view top.new regs.new (S.meaning s.new) }) (pdlget depth (view top.old regs.old (S.meaning s.old))) }
 {
     let Some(v) = stack::peek(&regs.list, top.height, depth as usize) else {
         return Err(Refusal::TooFew);

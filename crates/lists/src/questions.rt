@@ -22,7 +22,7 @@ fn looked_at(v: Value) -> Looked
 
 // The kind of the top value, and the number if it is one. `s` is there for the contract, which speaks of the whole heap.
 pub fn look<S: CellStore>(top: &Top, regs: &Registers, s: &S) -> Result<Looked, Refusal>
-    ensures { ◌≡◌ {A = Done LookedT} (record { says = result; heap = view top.now regs.now (meaning s.now) }) (look (view top.now regs.now (meaning s.now))) }
+    ensures { ◌≡◌ {A = Done LookedT} (record { says = result; heap = view top.now regs.now (S.meaning s.now) }) (look (view top.now regs.now (S.meaning s.now))) }
 {
     match stack::peek(&regs.list, top.height, 0) {
         Some(v) => Ok(looked_at(v)),
@@ -44,7 +44,7 @@ fn same_value(a: Value, b: Value) -> bool
 
 // Pops two values; whether they are the same.
 pub fn identical<S: CellStore>(top: &mut Top, regs: &Registers, s: &mut S) -> Result<bool, Refusal>
-    ensures { ◌≡◌ {A = Done Bool} (record { says = result; heap = view top.new regs.now (meaning s.new) }) (identical (view top.old regs.now (meaning s.old))) }
+    ensures { ◌≡◌ {A = Done Bool} (record { says = result; heap = view top.new regs.now (S.meaning s.new) }) (identical (view top.old regs.now (S.meaning s.old))) }
 {
     let Some(two) = stack::last_two(&regs.list, top.height) else {
         return Err(Refusal::TooFew);

@@ -2,7 +2,6 @@
 use Rattle.std.proofs.Common.{◌≡◌, ℕ, zero, suc, ◌-◌, ◌%◌, ◌<◌, Bool, true, false, cond, not, ◌&&◌, eqb, sym, refl, ap, ◌∙◌, mod-eq_of_lt, arith}
 use mathlib.Core.Bool.{beq}
 use lib.Bits.{bit_and, bit_or, and_mod, or_mod, and_le_r}
-use Rattle.std.proofs.cmp.Tests.{bool-equal}
 use Rattle.std.proofs.lemmas.Bool.{eqb-true}
 use Rattle.std.proofs.lemmas.Bool.Decides.{Decides-below_and}
 use Rattle.packed.specs.Bits.{mask, bit_of, with_bit}
@@ -16,6 +15,12 @@ below f (suc n) = f n && below f n
 holds : (f : ℕ → Bool) (n : ℕ) → below f n ≡ true → (k : ℕ) → k < n → f k ≡ true
 holds f n e = (Decides-below_and f (λ k. f k ≡ true) (below f) (λ k. (λ t. t, λ t. t)) refl (λ _. refl) n).0 e
 
+same : (a b : Bool) → beq a b ≡ true → a ≡ b
+same true true e = refl
+same true false e = cc
+same false true e = cc
+same false false e = refl
+
 abbrev right : Bool → ℕ → ℕ → ℕ → Bool
 right on b r q = beq (bit_of (with_bit b r on) q) (cond (eqb q r) on (bit_of b q))
 
@@ -25,7 +30,7 @@ all_right false = refl
 
 byte_bits : (b r q : ℕ) (on : Bool) → b < 256 → r < 8 → q < 8 → bit_of (with_bit b r on) q ≡ cond (eqb q r) on (bit_of b q)
 byte_bits b r q on hb hr hq =
-    (bool-equal _ _).0 (holds (right on b r) 8 (holds (λ r. below (right on b r) 8) 8 (holds (λ b. below (λ r. below (right on b r) 8) 8) 256 (all_right on) b hb) r hr) q hq)
+    same _ _ (holds (right on b r) 8 (holds (λ r. below (right on b r) 8) 8 (holds (λ b. below (λ r. below (right on b r) 8) 8) 256 (all_right on) b hb) r hr) q hq)
 
 -- ---- Of a larger number the masks see the lowest byte.
 

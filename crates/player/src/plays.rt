@@ -22,7 +22,7 @@ fn play_record<S: CellStore>(
     s: &mut S,
     record: Record<'_>,
 ) -> Outcome
-    ensures { ◌≡◌ {A = Turn} (record { outcome = result; heap = view top.new regs.new (meaning s.new) }) (turn_of (call_of (entry_of «record».entry)) (view top.old regs.old (meaning s.old))) }
+    ensures { ◌≡◌ {A = Turn} (record { outcome = result; heap = view top.new regs.new (S.meaning s.new) }) (turn_of (call_of (entry_of «record».entry)) (view top.old regs.old (S.meaning s.old))) }
 {
     match call_of(record) {
         Some(call) => Outcome::Called(perform(top, regs, s, call)),
@@ -39,7 +39,7 @@ pub fn play<'a, S: CellStore>(
     played: &mut Vec<Played<'a>>,
 ) -> Result<usize, PlayFault<'a>>
     ensures ends { Ends tape.now played.new.items result }
-    ensures law { Plays (meaning s.old) (meaning s.new) played.new.items }
+    ensures law { Plays (S.meaning s.old) (S.meaning s.new) played.new.items }
 {
     played.clear();
     let Opened { mut top, mut regs } = open(s);

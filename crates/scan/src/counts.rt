@@ -20,10 +20,10 @@ fn in_use(kind: Kind) -> usize
 
 // What a place adds to the count of those after it.
 fn use_of<S: CellStore>(s: &mut S, place: u32) -> usize
-    requires { place < min 4096 (length (meaning s.old)) }
-    ensures value { used_in (drop place (take 4096 (meaning s.old))) ≡ result + used_in (drop (place + 1) (take 4096 (meaning s.old))) }
+    requires { place < min 4096 (length (S.meaning s.old)) }
+    ensures value { used_in (drop place (take 4096 (S.meaning s.old))) ≡ result + used_in (drop (place + 1) (take 4096 (S.meaning s.old))) }
     ensures bound { result ≤ 1 }
-    ensures same { meaning s.new ≡ meaning s.old }
+    ensures same { S.meaning s.new ≡ S.meaning s.old }
 {
     let cell = read_place(s, place);
     in_use(kind_of(cell))
@@ -31,16 +31,16 @@ fn use_of<S: CellStore>(s: &mut S, place: u32) -> usize
 
 // N, the number of places: from it on nothing is in use.
 fn end<S: CellStore>(s: &S) -> u32
-    ensures value { result ≡ min 4096 (length (meaning s.now)) }
-    ensures none { (p : ℕ) → result ≤ p → used_in (drop p (take 4096 (meaning s.now))) ≡ 0 }
+    ensures value { result ≡ min 4096 (length (S.meaning s.now)) }
+    ensures none { (p : ℕ) → result ≤ p → used_in (drop p (take 4096 (S.meaning s.now))) ≡ 0 }
 {
     places(s)
 }
 
 // Counts the places that are not free.
 pub fn census<S: CellStore>(s: &mut S) -> usize
-    ensures value { result ≡ used (memory (meaning s.old)) }
-    ensures same { meaning s.new ≡ meaning s.old }
+    ensures value { result ≡ used (memory (S.meaning s.old)) }
+    ensures same { S.meaning s.new ≡ S.meaning s.old }
 {
     let mut count = 0;
     for place in 0..end(s) {

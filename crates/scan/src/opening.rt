@@ -53,15 +53,15 @@ fn all_free(n: u32) -> Option<FreeList>
 // Frees a place of n and no other. `next`: where those below it are free and the others as they were, it is so one place further.
 fn free_place<S: CellStore>(s: &mut S, n: u32, place: u32)
     requires { place < n }
-    ensures exact { meaning s.new ≡ cells_with (meaning s.old) place (free_cell n place) }
-    ensures next { (cells : List CellT) → place < min 4096 (length cells) → meaning s.old ≡ map (free_cell n) (range_with_len 0 place) ++ drop place cells → meaning s.new ≡ map (free_cell n) (range_with_len 0 (place + 1)) ++ drop (place + 1) cells }
+    ensures exact { S.meaning s.new ≡ cells_with (S.meaning s.old) place (free_cell n place) }
+    ensures next { (cells : List CellT) → place < min 4096 (length cells) → S.meaning s.old ≡ map (free_cell n) (range_with_len 0 place) ++ drop place cells → S.meaning s.new ≡ map (free_cell n) (range_with_len 0 (place + 1)) ++ drop (place + 1) cells }
 {
     write_place(s, place, free_cell(n, place));
 }
 
 // Opens a heap over a store. Cells past the places stay as they are.
 pub fn open<S: CellStore>(s: &mut S) -> Opened
-    ensures { view result.top result.regs (meaning s.new) ≡ opened 2 (meaning s.old) }
+    ensures { view result.top result.regs (S.meaning s.new) ≡ opened 2 (S.meaning s.old) }
 {
     let n = places(s);
     for place in 0..n {

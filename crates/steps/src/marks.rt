@@ -9,8 +9,8 @@ use values::Value;
 
 // The place no longer waits, and is accessible; answers its components, which are to be offered.
 pub fn mark_place<S: CellStore>(s: &mut S, place: u32) -> [Value; 2]
-    ensures value { result ≡ (cell_in (meaning s.old) place).parts }
-    ensures cells { meaning s.new ≡ cells_with (meaning s.old) place (marked (cell_in (meaning s.old) place)) }
+    ensures value { result ≡ (cell_in (S.meaning s.old) place).parts }
+    ensures cells { S.meaning s.new ≡ cells_with (S.meaning s.old) place (marked (cell_in (S.meaning s.old) place)) }
 {
     let mut cell = read_place(s, place);
     cell.waiting = false;
@@ -20,7 +20,7 @@ pub fn mark_place<S: CellStore>(s: &mut S, place: u32) -> [Value; 2]
 }
 
 pub fn clear_mark<S: CellStore>(s: &mut S, place: u32)
-    ensures { meaning s.new ≡ cells_with (meaning s.old) place (unmarked (cell_in (meaning s.old) place)) }
+    ensures { S.meaning s.new ≡ cells_with (S.meaning s.old) place (unmarked (cell_in (S.meaning s.old) place)) }
 {
     let mut cell = read_place(s, place);
     cell.mark = false;

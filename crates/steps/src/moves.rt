@@ -10,7 +10,7 @@ use values::{Kind, Value, kind_of};
 
 // Copies a cell to another place, and leaves behind where it went.
 pub fn move_cell<S: CellStore>(s: &mut S, from: u32, to: u32)
-    ensures { meaning s.new ≡ (moved from to (memory (meaning s.old))).cells }
+    ensures { S.meaning s.new ≡ (moved from to (memory (S.meaning s.old))).cells }
 {
     let mut cell = read_place(s, from);
     write_place(s, to, cell);
@@ -22,7 +22,7 @@ pub fn move_cell<S: CellStore>(s: &mut S, from: u32, to: u32)
 
 // Normalises the components of a place, if it is accessible.
 pub fn update_cell<S: CellStore>(s: &mut S, place: u32)
-    ensures { meaning s.new ≡ (updated (kind (cell_in (meaning s.old) place)) place (memory (meaning s.old))).cells }
+    ensures { S.meaning s.new ≡ (updated (kind (cell_in (S.meaning s.old) place)) place (memory (S.meaning s.old))).cells }
 {
     let mut cell = read_place(s, place);
     if let Kind::Accessible = kind_of(cell) {

@@ -12,7 +12,7 @@ use values::{Cell, Value};
 // Makes a place free, at the end of the free list.
 pub fn return_place<S: CellStore>(free: &mut Option<FreeList>, s: &mut S, place: u32)
     ensures ends { free.new ≡ Some (longer free.old place) }
-    ensures cells { meaning s.new ≡ (linked free.old place (put (memory (meaning s.old)) place last_free)).cells }
+    ensures cells { S.meaning s.new ≡ (linked free.old place (put (memory (S.meaning s.old)) place last_free)).cells }
 {
     let freed = Cell {
         mark: true,

@@ -19,7 +19,7 @@ pub reading-preserved : goal.reading-preserved
 reading-preserved c =
     let r = c.reading.rest in
     let t = c.in-Ok-Some.taken in
-    onto_more (vec_items c.reading.records) (vec_items c.push.new.self) (record { place = r.place; «record» = t.record }) r.tape.now t.rest.tape.now t.rest.place c.in-ok-push.ensures.items (search rules) ∙ c.reading.invariant
+    onto_more (vec_items c.reading.records) (vec_items c.push.new.self) (record { place = r.place; «record» = t.record }) r.tape.now t.rest.tape.now t.rest.place c.in_ok-push-in-Ok-Some.ensures.items (search rules) ∙ c.reading.invariant
 
 pub returns-in-Ok-None : goal.returns-in-Ok-None
 returns-in-Ok-None c =
