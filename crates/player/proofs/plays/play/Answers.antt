@@ -33,18 +33,18 @@ loop-taken-preserved g c =
       came_more xs ys x put c.play_record-outcome.ensures c.loop-taken.invariant.1,
     )
 
-pub returns-in-err-taken : goal.returns-in-err-taken
-returns-in-err-taken g c =
-    let p = err_from_is_err_and c.from-residual.result c.from-residual.ensures.1 in
+pub returns-in_err-taken : goal.returns-in_err-taken
+returns-in_err-taken g c =
+    let p = err_from_is_err_and c.from_residual.result c.from_residual.ensures.1 in
     let r = c.loop-taken.rest in
-    let f = fault_of c.in-err-taken.field-0.0 in
+    let f = fault_of c.in_err-taken.field-0.0 in
     let rs = records_of (vec_items c.loop-taken.played) in
-    let whole = onto_last rs r.tape.now r.place (bad f) (Some f) c.in-err-taken.ensures refl ∙ c.loop-taken.invariant.0 in
+    let whole = onto_last rs r.tape.now r.place (bad f) (Some f) c.in_err-taken.ensures refl ∙ c.loop-taken.invariant.0 in
     rw (p.1, p.2) (record { ends = sym whole; law = came_lawful c.open.ensures refl c.loop-taken.invariant.1 })
 
-pub returns-in-err-reserve : goal.returns-in-err-reserve
-returns-in-err-reserve g c =
-    let p = err_from_is_err_and c.from-residual-in-err-reserve.result c.from-residual-in-err-reserve.ensures.1 in
+pub returns-in_err-reserve : goal.returns-in_err-reserve
+returns-in_err-reserve g c =
+    let p = err_from_is_err_and c.from_residual-in_err-reserve.result c.from_residual-in_err-reserve.ensures.1 in
     let r = c.loop-taken.rest in
     let left = (read_from r.tape.now r.place).records in
     rw (p.1, p.2, c.reserve.ensures.items)
