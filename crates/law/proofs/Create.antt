@@ -4,7 +4,6 @@ use mathlib.Core.List.{reverse_aux}
 use Rattle.std.proofs.lemmas.List.{length-take-le, length-reverse, length-drop, get_or_past}
 use Rattle.std.proofs.lemmas.Bool.{cases_lt, lt-ltb, le-ltb}
 use Rattle.values.specs.Cells.{kind}
-use Rattle.values.specs.declared.cells.Cell.{Cell}
 use Rattle.values.specs.declared.cells.Kind.TheVariants as K
 use Rattle.values.specs.declared.cells.Value.{Value}
 use Rattle.values.specs.declared.cells.Value.TheVariants as V

@@ -1,8 +1,7 @@
 -- An offer keeps the invariant, in any phase; so do the offers of all components.
-use Rattle.std.proofs.Common.{◌≡◌, ℕ, zero, suc, ◌+◌, ◌-◌, ◌<◌, ◌≤◌, true, false, ◌||◌, ◌≢◌, ◌⊎◌, List, get_or, Option, sym, refl, ◌∙◌, subst, inl, inr, arith}
+use Rattle.std.proofs.Common.{◌≡◌, ℕ, zero, suc, ◌+◌, ◌<◌, ◌≤◌, true, false, ◌||◌, ◌⊎◌, List, get_or, Option, sym, refl, ◌∙◌, subst, inl, inr, arith}
 use Rattle.std.proofs.lemmas.Bool.{cases_eq, true≢false}
 use Rattle.values.specs.Cells.{kind}
-use Rattle.values.specs.declared.cells.Cell.{Cell}
 use Rattle.values.specs.declared.cells.Kind.{Kind}
 use Rattle.values.specs.declared.cells.Kind.TheVariants as K
 use Rattle.values.specs.declared.cells.Value.{Value}
@@ -11,7 +10,7 @@ use Rattle.model.specs.declared.registers.FreeList.{FreeList}
 use Rattle.model.specs.declared.registers.Phase.{Phase}
 use Rattle.model.specs.declared.registers.Phase.TheVariants as P
 use Rattle.model.specs.Heap.{Heap, Mem, at, with_pending, with_mem}
-use Rattle.model.specs.Words.{waiting, marking, offered_from}
+use Rattle.model.specs.Words.{marking, offered_from}
 use Rattle.law.specs.Reference.{Reference}
 use Rattle.law.proofs.Memory.{size}
 use Rattle.law.proofs.PlaceKinds.{is_plain, is_accessible}

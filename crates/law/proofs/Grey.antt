@@ -1,5 +1,5 @@
 -- The collector stack holds exactly the waiting places, each once, and each is plain.
-use Rattle.std.proofs.Common.{◌≡◌, ℕ, ◌-◌, ◌<◌, true, ◌≢◌, List, [], ◌∷◌, sym, ◌∙◌, subst, inl, inr, arith}
+use Rattle.std.proofs.Common.{◌≡◌, ℕ, ◌<◌, true, List, [], ◌∷◌, sym, ◌∙◌, subst, inl, inr, arith}
 use Rattle.std.proofs.lemmas.Bool.{true≢false}
 use Rattle.values.specs.Cells.{kind}
 use Rattle.values.specs.declared.cells.Kind.TheVariants as K

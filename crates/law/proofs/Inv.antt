@@ -1,5 +1,5 @@
 -- What holds between any two calls.
-use Rattle.std.proofs.Common.{◌≡◌, ℕ, ◌-◌, ◌<◌, ◌≤◌, Bool, true, false, ◌≢◌, ◌⊎◌, List, [], ◌∷◌, length, get_or, Option, sym, refl, ap, ◌∙◌, inl, inr, arith}
+use Rattle.std.proofs.Common.{◌≡◌, ℕ, ◌<◌, ◌≤◌, Bool, true, false, ◌⊎◌, List, [], ◌∷◌, length, get_or, Option, sym, refl, ap, ◌∙◌, inl, inr, arith}
 use lib.Ieee.{Float}
 use Rattle.std.proofs.lemmas.Bool.{true≢false}
 use Rattle.values.specs.Cells.{kind}

@@ -1,9 +1,8 @@
 -- A value of the heap and a value of the reference heap: when the one stands for the other.
-use Rattle.std.proofs.Common.{◌≡◌, ℕ, ◌-◌, ◌<◌, ◌≤◌, Bool, true, false, cond, ◌||◌, ltb, ◌≢◌, ◌⊎◌, List, [], length, get_or, set, sym, refl, ap, ◌∙◌, inl, inr, arith, length-set, get_or-set_other, get_or-set_same}
+use Rattle.std.proofs.Common.{◌≡◌, ℕ, ◌<◌, ◌≤◌, Bool, true, false, cond, ◌||◌, ltb, ◌⊎◌, List, [], length, get_or, set, sym, refl, ap, ◌∙◌, inl, inr, arith, length-set, get_or-set_other, get_or-set_same}
 use lib.Ieee.{Float}
 use Rattle.std.proofs.lemmas.Bool.{cases_eq, true≢false, cond_both}
 use Rattle.values.specs.Cells.{kind}
-use Rattle.values.specs.declared.cells.Cell.{Cell}
 use Rattle.values.specs.declared.cells.Kind.{Kind}
 use Rattle.values.specs.declared.cells.Kind.TheVariants as K
 use Rattle.values.specs.declared.cells.Value.{Value}

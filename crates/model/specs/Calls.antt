@@ -1,5 +1,5 @@
 -- The twelve list calls.
-use Rattle.std.specs.Prelude.{ℕ, ◌-◌, Bool, true, false, cond, ◌&&◌, List, ◌∷◌, length, drop, set, Some, None, Option, ◌==◌, nat_le, nat_lt, slice_index_or, slice_set, to_bits, Float}
+use Rattle.std.specs.Prelude.{ℕ, ◌-◌, Bool, true, false, cond, ◌&&◌, List, ◌∷◌, length, drop, Some, None, Option, ◌==◌, nat_le, nat_lt, slice_index_or, slice_set, to_bits, Float}
 use Rattle.std.specs.Float.{binary32}
 use Rattle.std.specs.List.{slice_get}
 use Rattle.stack.specs.Entries.{last_of}

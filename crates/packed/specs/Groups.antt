@@ -1,5 +1,5 @@
 -- Cells in bytes, eight to a group: a byte of marks, one of flags, one of waiting bits, then eight cells of `width` values.
-use Rattle.std.specs.Prelude.{ℕ, zero, suc, ◌+◌, ◌*◌, ◌/◌, ◌%◌, Bool, false, cond, List, [], ◌∷◌, map, length, take, drop, set, nat_lt, slice_index, slice_index_or, slice_set}
+use Rattle.std.specs.Prelude.{ℕ, zero, suc, ◌+◌, ◌*◌, ◌/◌, ◌%◌, Bool, false, cond, List, [], ◌∷◌, map, length, take, drop, nat_lt, slice_index, slice_index_or, slice_set}
 use Rattle.std.proofs.lemmas.List.Edits.{sets}
 use Rattle.std.specs.List.{range_with_len}
 use Rattle.values.specs.declared.cells.Cell.{Cell}
