@@ -3,7 +3,7 @@ use Rattle.std.proofs.Common.{◌≡◌, ℕ, List, [], ◌∷◌, ◌++◌, map
 use Rattle.std.proofs.ByRecursion.{All-push}
 use Rattle.std.proofs.lemmas.Simd.{map-map}
 use Rattle.std.proofs.lemmas.List.{append-nil, flat_map_more, map_push}
-use Rattle.std.specs.List.{AllByRecursion as All}
+use Rattle.std.specs.List.{AllByRecursion}
 use Rattle.heap.proofs.Turns.{follows_more, ran_lawfully}
 use Rattle.law.specs.Law.{Follows}
 use Rattle.model.specs.Every.{call}
@@ -36,7 +36,7 @@ onto_played xs ys x t u q put is =
 
 -- The outcomes so far suit their records, and the calls so far lead from the heap h to the last.
 pub record Came (h last : Heap) (played : List Played) : Type 0 where
-  pub suits : All (λ (x : Played). Suits (asked x) x.outcome) played
+  pub suits : AllByRecursion (λ (x : Played). Suits (asked x) x.outcome) played
   pub follows : Follows h (events_of played) last
 
 turn_suits : (o : Option Call) (h : Heap) → Suits o (turn_of o h).outcome

@@ -1,6 +1,6 @@
 -- What holds of the playing of a tape on a heap over a store.
 use Rattle.std.specs.Prelude.{◌≡◌, ℕ, List, ◌++◌, map, length, Some, None, Ok, Err, Option, Result}
-use Rattle.std.specs.List.{flat_map, AllByRecursion as All}
+use Rattle.std.specs.List.{flat_map, AllByRecursion}
 use Rattle.heap.specs.Runs.{Ran}
 use Rattle.model.specs.declared.calls.Call.{Call}
 use Rattle.model.specs.declared.calls.Event.{Event}
@@ -31,7 +31,7 @@ events_of played = flat_map (λ (x : Played). logged (asked x) x.outcome) played
 -- The store held the cells before and holds the cells after.
 pub record Plays (before after : List Cell) (played : List Played) : Type 0 where
   -- Every call was granted or refused, and every note passed on.
-  pub suits : All (λ (x : Played). Suits (asked x) x.outcome) played
+  pub suits : AllByRecursion (λ (x : Played). Suits (asked x) x.outcome) played
   -- Exactly these calls were made of a heap opened over the store, with these results; they obey the law, and the cells in use number what they say.
   pub ran : Ran before after (events_of played) (events_of played)
 

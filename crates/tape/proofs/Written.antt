@@ -1,11 +1,11 @@
 -- A record that is read off a tape is written as the tape is.
 use Rattle.std.proofs.Common.{◌≡◌, ℕ, suc, ◌+◌, ◌/◌, ◌%◌, ◌<◌, ◌≤◌, Bool, true, false, cond, ◌&&◌, eqb, ◌⊎◌, List, [], ◌∷◌, length, get_or, take, drop, Some, None, sym, refl, ap, ◌∙◌, subst, inl, inr, ⊎_elim, arith}
 use Rattle.std.proofs.lemmas.Bool.{and_parts, cases_lt, eqb-true, eqb-false}
-use Rattle.std.specs.List.{AllByRecursion as All}
+use Rattle.std.specs.List.{AllByRecursion}
 use Rattle.tape.specs.Format.{Entry, kind, span, written, first, byte, word, big_endian, readings, of_kind}
 
 -- What was found under k is of that kind, and has what every entry has.
-found : (P : Entry → Type 0) (k : ℕ) (es : List Entry) → All P es → (e : Entry) → of_kind k es ≡ Some e → P e × (k ≡ (kind e).number)
+found : (P : Entry → Type 0) (k : ℕ) (es : List Entry) → AllByRecursion P es → (e : Entry) → of_kind k es ≡ Some e → P e × (k ≡ (kind e).number)
 found P k [] has e is = absurd (let z : ◌≡◌ {A = ℕ} 0 1 = cc in omega arith)
 found P k (x ∷ xs) (has, more) e is = go (found P k xs more e) (eqb k (kind x).number) refl is
   where
@@ -70,7 +70,7 @@ with_text : (t : List ℕ) → 16 ≡ first t → 13 ≤ length t → 16 ∷ tak
 with_text [] is fits = absurd (omega arith)
 with_text (x ∷ b) is fits = ap (λ j. j ∷ take 12 b) is
 
-all_write : (t : List ℕ) → Bytes t → All (Writes t) (readings t)
+all_write : (t : List ℕ) → Bytes t → AllByRecursion (Writes t) (readings t)
 all_write t small = (n, (with_word t small, (b, (b, (n, (b, (b, (n, (n, (n, (b, (b, (b, (n, (n, (with_text t, tt))))))))))))))))
   where
     n : {k : ℕ} → k ≡ first t → 1 ≤ length t → k ∷ [] ≡ take 1 t
