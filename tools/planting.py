@@ -46,6 +46,19 @@ class Check:
         self.reached = run.returncode in (0, 1) and "nothing above it was checked" not in run.stdout
 
 
+class Run:
+    """What `rt run` says of a program of the repository in the folder, given its stored input; and whether it writes its stored output."""
+
+    def __init__(self, folder, program):
+        crate = folder / "crates" / program
+        given, wanted = (crate / name for name in ("stdin", "stdout"))
+        text = given.read_bytes() if given.exists() else b""
+        run = subprocess.run(["rt", "run", "--jobs", "1"], cwd=crate, input=text, stdout=subprocess.PIPE, stderr=subprocess.PIPE)
+        self.output = run.stderr.decode(errors="replace")
+        self.proved = f"rt: running out/{program};" in self.output
+        self.as_stored = run.returncode == 0 and run.stdout == (wanted.read_bytes() if wanted.exists() else b"")
+
+
 def chosen(plants, labels):
     """The plants with these labels, or all where there are no labels; none where a label is unknown."""
     unknown = set(labels) - {plant.label for plant in plants}
