@@ -51,6 +51,11 @@ impl<S: CellStore> CellStore for Passing<S> {
 LIB = "lib.rt"
 OFFER = "offer(top, regs, s, normal);\n"
 
+# why nothing tells some mistakes
+NO_ZEROS = "no stored output has a number or a note's byte that begins with the digit 0, and no contract speaks of the digits"
+SHORT_TAPES = "every stored tape is shorter than the limit, and the contract says only that no more than the limit is read"
+AS_EXPECTED = "every session is answered as expected, so a comparison that lets more pass prints the same"
+
 
 def one(label, crate, file, old, new, runs=(), survives=None):
     return Plant(label, crate, (file, old, new), runs=runs, survives=survives)
@@ -214,8 +219,8 @@ PLANTS = [
     one("bad-and-no-exchanged", "lines", "faults.rt", 'Layer::Tape => "bad"', 'Layer::Tape => "no"'),
     one("line-of-the-next-place", "lines", "granted.rt", "place: played.place,", "place: played.place.saturating_add(1),"),
     one("kind-before-place", "lines", "granted.rt", '"{place} {kind} ok"', '"{kind} {place} ok"', runs=["play"]),
-    one("text-with-short-bytes", "lines", "granted.rt", "{byte:02x}", "{byte:x}", runs=["replay"]),
-    one("pattern-with-few-digits", "lines", "granted.rt", "{pattern:08x}", "{pattern:x}", runs=["replay"]),
+    one("text-with-short-bytes", "lines", "granted.rt", "{byte:02x}", "{byte:x}", runs=["replay"], survives=NO_ZEROS),
+    one("pattern-with-few-digits", "lines", "granted.rt", "{pattern:08x}", "{pattern:x}", runs=["replay"], survives=NO_ZEROS),
     one("returned-turned", "lines", "granted.rt", "u8::from(returned)", "u8::from(!returned)", runs=["replay"]),
     one("census-not-printed", "lines", "granted.rt", 'Answer::Census(count) => write!(f, " {count}")', "Answer::Census(_) => Ok(())", runs=["play"]),
     one("fault-line-left-out", "lines", "listing.rt", "        write_fault(out, fault)?;\n    }\n    let count", "        let _ = fault;\n    }\n    let count", runs=["play"]),
@@ -224,20 +229,20 @@ PLANTS = [
     one("half-of-the-table", "play", "main.rt", "TableStore { cells: &mut cells }", "TableStore { cells: &mut cells[..512] }"),
     one("four-groups", "replay", "main.rt", "5 * 83", "4 * 83"),
     # ---- what the programs read
-    one("tape-of-one-byte-less", "input", LIB, "const LIMIT: usize = 65_536;", "const LIMIT: usize = 65_535;", runs=["replay"]),
+    one("tape-of-one-byte-less", "input", LIB, "const LIMIT: usize = 65_536;", "const LIMIT: usize = 65_535;", runs=["replay"], survives=SHORT_TAPES),
     one("tape-of-one-byte-more", "input", LIB, "const LIMIT: usize = 65_536;", "const LIMIT: usize = 65_537;"),
-    one("one-byte-less-read", "input", LIB, "take(LIMIT as u64)", "take(LIMIT as u64 - 1)", runs=["replay"]),
+    one("one-byte-less-read", "input", LIB, "take(LIMIT as u64)", "take(LIMIT as u64 - 1)", runs=["replay"], survives=SHORT_TAPES),
     # ---- the other programs
     one("dump-name-before-kind", "dump", "main.rt", '"{place} {kind} {name}"', '"{place} {name} {kind}"'),
-    one("dump-pattern-with-few-digits", "dump", "main.rt", "{pattern:08x}", "{pattern:x}"),
-    one("dump-text-with-short-bytes", "dump", "main.rt", "{byte:02x}", "{byte:x}"),
+    one("dump-pattern-with-few-digits", "dump", "main.rt", "{pattern:08x}", "{pattern:x}", survives=NO_ZEROS),
+    one("dump-text-with-short-bytes", "dump", "main.rt", "{byte:02x}", "{byte:x}", survives=NO_ZEROS),
     one("dump-begin-without-argument", "dump", "main.rt", "            | Record::Pdlput(n)\n            | Record::Begin(n) =>", "            | Record::Pdlput(n) =>"),
     one("dump-fault-left-out", "dump", "main.rt", "        let line = BadLine(fault);\n        writeln!(out, \"{line}\")?;\n", "        let _ = fault;\n"),
-    one("sessions-compare-no-census", "sessions", "compare.rt", "(Answer::Census(x), Answer::Census(y)) => x == y", "(Answer::Census(_), Answer::Census(_)) => true"),
-    one("sessions-compare-no-phase", "sessions", "compare.rt", "phase_word(x.phase) == phase_word(y.phase) && x.returned == y.returned", "x.returned == y.returned"),
-    one("sessions-compare-no-return", "sessions", "compare.rt", "phase_word(x.phase) == phase_word(y.phase) && x.returned == y.returned", "phase_word(x.phase) == phase_word(y.phase)"),
-    one("sessions-compare-no-number", "sessions", "compare.rt", "pattern_of(x) == pattern_of(y)", "true"),
-    one("sessions-compare-no-refusal", "sessions", "compare.rt", "refusal_number(x) == refusal_number(y)", "true"),
-    one("sessions-compare-not-at-all", "sessions", "compare.rt", "if !same_result(given.answer, wanted.answer) {", "if false {"),
+    one("sessions-compare-no-census", "sessions", "compare.rt", "(Answer::Census(x), Answer::Census(y)) => x == y", "(Answer::Census(_), Answer::Census(_)) => true", survives=AS_EXPECTED),
+    one("sessions-compare-no-phase", "sessions", "compare.rt", "phase_word(x.phase) == phase_word(y.phase) && x.returned == y.returned", "x.returned == y.returned", survives=AS_EXPECTED),
+    one("sessions-compare-no-return", "sessions", "compare.rt", "phase_word(x.phase) == phase_word(y.phase) && x.returned == y.returned", "phase_word(x.phase) == phase_word(y.phase)", survives=AS_EXPECTED),
+    one("sessions-compare-no-number", "sessions", "compare.rt", "pattern_of(x) == pattern_of(y)", "true", survives=AS_EXPECTED),
+    one("sessions-compare-no-refusal", "sessions", "compare.rt", "refusal_number(x) == refusal_number(y)", "true", survives=AS_EXPECTED),
+    one("sessions-compare-not-at-all", "sessions", "compare.rt", "if !same_result(given.answer, wanted.answer) {", "if false {", survives=AS_EXPECTED),
     one("bench-grants-all", "tally", "calls.rt", "if event.answer.is_ok() {", "if true {"),
 ]
