@@ -1,9 +1,11 @@
 #!/usr/bin/env python3
 """Counts what a call costs, in instructions; docs/PERFORMANCE.md has what it printed.
 
-    cost.py PROGRAM..         the tables, for `bench` and programs that take the same input
+    cost.py PROGRAM..         the tables, for `tally` and programs that take the same input
     cost.py play PROGRAM      the table for `play`
     cost.py tape NAME CELLS   one of the tapes below, for a heap of so many cells
+
+`rt run < stdin` in crates/tally proves and builds crates/tally/out/tally, and in crates/play crates/play/out/play.
 
 `valgrind --tool=lackey --trace-mem=yes` lists every instruction that a program executes. A log of calls is gone through in a loop,
 so a call costs the instructions from one visit of the loop's first instruction to the next. That includes the loop, the choice of the call

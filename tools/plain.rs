@@ -1,5 +1,5 @@
 //! The rules of docs/RULES.md in plain Rust, with nothing proved, to compare what a call costs.
-//! It takes the same input as the program `bench`; docs/PERFORMANCE.md says how to use it.
+//! It takes the same input as the program `tally`; docs/PERFORMANCE.md says how to use it.
 //!
 //!     rustc --edition 2021 -C opt-level=3 -A warnings -o plain tools/plain.rs
 use std::io::Read;

@@ -1,6 +1,5 @@
 """Mistakes that are planted on purpose, one at a time, in a copy of the repository: what the plant-* tools share."""
 
-import os
 import shutil
 import subprocess
 from contextlib import contextmanager
@@ -32,15 +31,32 @@ def planted(folder, edits):
 
 
 def copy_crate(name, folder):
-    """Copies a crate into a repository's folder, without the edits that must be refused."""
+    """Copies a crate into a repository's folder, with what is known of its proofs, without the edits that must be refused."""
     shutil.copytree(REPOSITORY / "crates" / name, folder / "crates" / name, ignore=shutil.ignore_patterns("must-fail"))
 
 
-def rt_check(folder, *crates):
-    """What `rt check` says of these crates of the repository in the folder."""
-    environment = dict(os.environ, RT_CUT="0")
-    run = subprocess.run(["rt", "check", *crates], cwd=folder, env=environment, stdout=subprocess.PIPE, stderr=subprocess.STDOUT, text=True)
-    return run.stdout
+class Check:
+    """What `rt check` says of a crate of the repository in the folder, and of those below it that have changed."""
+
+    def __init__(self, folder, crate):
+        run = subprocess.run(["rt", "check", "--jobs", "1"], cwd=folder / "crates" / crate, stdout=subprocess.PIPE, stderr=subprocess.STDOUT, text=True)
+        self.output = run.stdout
+        self.proved = run.returncode == 0
+        # nothing above a crate that is not proved is checked
+        self.reached = run.returncode in (0, 1) and "nothing above it was checked" not in run.stdout
+
+
+class Run:
+    """What `rt run` says of a program of the repository in the folder, given its stored input; and whether it writes its stored output."""
+
+    def __init__(self, folder, program):
+        crate = folder / "crates" / program
+        given, wanted = (crate / name for name in ("stdin", "stdout"))
+        text = given.read_bytes() if given.exists() else b""
+        run = subprocess.run(["rt", "run", "--jobs", "1"], cwd=crate, input=text, stdout=subprocess.PIPE, stderr=subprocess.PIPE)
+        self.output = run.stderr.decode(errors="replace")
+        self.proved = f"rt: running out/{program};" in self.output
+        self.as_stored = run.returncode == 0 and run.stdout == (wanted.read_bytes() if wanted.exists() else b"")
 
 
 def chosen(plants, labels):

@@ -4,32 +4,34 @@
 class Plant:
     """A mistake: its label, its crate, its edits as (file of src/, old, new), and the programs that are run besides.
 
-    `runs` names the programs whose stored output tells what no contract can speak of.
+    `runs` names the programs whose stored output tells what no contract can speak of; `survives` says why nothing tells
+    the mistake, if nothing can.
     """
 
-    def __init__(self, label, crate, *edits, runs=()):
+    def __init__(self, label, crate, *edits, runs=(), survives=None):
         self.label = label
         self.crate = crate
         self.edits = edits
         self.runs = runs
+        self.survives = survives
 
 
 # A store that passes every call on to the one below, with no promises but the interface's: it is proved as it stands,
 # and each mistake in it shows what the interface's promises say by themselves.
 PASSING_CRATE = {
-    "specs/Lib.antt": "",
     "src/lib.rt": """// A store that passes every call on to the store below it.
+#![tactic(auto)]
+
 use store::CellStore;
-use values::Cell;
-use values::blank_cell;
+use values::{Cell, blank_cell};
 
 #[derive(Drop)]
 pub struct Passing<S> {
     pub below: S,
 }
 
-pub impl<S: CellStore> CellStore for Passing<S> as PassingCellStore {
-    ghost meaning = { λ s. S·CellStore .meaning (s .below) };
+impl<S: CellStore> CellStore for Passing<S> {
+    ghost meaning = { λ s. S.meaning s.below };
 
     fn count(&self) -> usize {
         self.below.count()
@@ -49,9 +51,14 @@ pub impl<S: CellStore> CellStore for Passing<S> as PassingCellStore {
 LIB = "lib.rt"
 OFFER = "offer(top, regs, s, normal);\n"
 
+# why nothing tells some mistakes
+NO_ZEROS = "no stored output has a number or a note's byte that begins with the digit 0, and no contract speaks of the digits"
+SHORT_TAPES = "every stored tape is shorter than the limit, and the contract says only that no more than the limit is read"
+AS_EXPECTED = "every session is answered as expected, so a comparison that lets more pass prints the same"
 
-def one(label, crate, file, old, new, runs=()):
-    return Plant(label, crate, (file, old, new), runs=runs)
+
+def one(label, crate, file, old, new, runs=(), survives=None):
+    return Plant(label, crate, (file, old, new), runs=runs, survives=survives)
 
 
 PLANTS = [
@@ -73,10 +80,10 @@ PLANTS = [
     one("record-mark-from-waiting", "values", "records.rt", "mark: c.mark,", "mark: c.waiting,"),
     one("number-sign-turned", "values", "numbers.rt", "f32_from_bits_with_nan(pattern)", "f32_from_bits_with_nan(pattern ^ 0x8000_0000)"),
     # ---- the table store
-    one("table-forgets-a-write", "table", LIB, "        cells[i] = kept;\n", ""),
-    one("table-writes-the-last", "table", LIB, "cells[i] = kept;", "cells[cells.len() - 1] = kept;"),
+    one("table-forgets-a-write", "table", LIB, "        cells[at] = kept;\n", ""),
+    one("table-writes-the-last", "table", LIB, "cells[at] = kept;", "cells[cells.len() - 1] = kept;"),
     one("table-last-place-past", "table", LIB, "    if i < cells.len() {\n        cells[i]\n", "    if i + 1 < cells.len() {\n        cells[i]\n"),
-    one("table-one-place-more", "table", LIB, "    if i < cells.len() {\n        cells[i] = kept;", "    if i <= cells.len() {\n        cells[i] = kept;"),
+    one("table-one-place-more", "table", LIB, "if at < cells.len() {\n        cells[at] = kept;", "if at <= cells.len() {\n        cells[at] = kept;"),
     # ---- the packed store
     one("masks-lowest-bit-first", "packed", "bits.rt", "[128, 64, 32, 16, 8, 4, 2, 1]", "[1, 2, 4, 8, 16, 32, 64, 128]"),
     one("bit-never-cleared", "packed", "bits.rt", "b & !MASKS[r]", "b"),
@@ -159,11 +166,11 @@ PLANTS = [
     one("free-list-kept", "components", "creates.rt", "regs.free = shortened(vacant.parts[0], free);", "regs.free = Some(free);"),
     one("free-list-ends-at-its-first", "components", "creates.rt", "last: free.last", "last: free.first"),
     # ---- what a step does to a place
-    one("popped-place-still-waits", "steps", "marks.rt", "        waiting: false,\n", ""),
-    one("popped-place-not-written", "steps", "marks.rt", "    write_place(s, place, marked);\n", ""),
-    one("source-still-marked", "steps", "moves.rt", "        mark: false,\n", ""),
+    one("popped-place-still-waits", "steps", "marks.rt", "    cell.waiting = false;\n", ""),
+    one("popped-place-not-written", "steps", "marks.rt", "    cell.mark = true;\n    write_place(s, place, cell);\n", "    cell.mark = true;\n"),
+    one("source-still-marked", "steps", "moves.rt", "    cell.mark = false;\n", ""),
     one("copy-over-the-source", "steps", "moves.rt", "write_place(s, to, cell);", "write_place(s, from, cell);"),
-    one("update-not-written", "steps", "moves.rt", "        write_place(s, place, Cell { parts, ..cell });\n", ""),
+    one("update-not-written", "steps", "moves.rt", "        write_place(s, place, cell);\n", ""),
     one("returned-place-not-linked", "steps", "returns.rt", "            write_place(s, ends.last, cell);\n", ""),
     one("returned-place-waits", "steps", "returns.rt", "waiting: false,", "waiting: true,"),
     one("first-returned-not-last", "steps", "returns.rt", "                last: place,\n", "                last: 0,\n"),
@@ -175,8 +182,8 @@ PLANTS = [
     one("components-not-offered", "collector", "stepping.rt", "                offer_all(top, regs, s, parts);\n", ""),
     one("relocate-from-1", "collector", "stepping.rt", "Phase::Relocate { low: 0, high }", "Phase::Relocate { low: 1, high }"),
     one("relocate-one-more", "collector", "stepping.rt", "if *low >= *high {", "if *low > *high {"),
-    one("plain-cells-move", "collector", "stepping.rt", "if let Kind::Accessible = kind_of(cell) {", "if let Kind::Plain = kind_of(cell) {"),
-    one("low-not-raised", "collector", "stepping.rt", "cell);\n                *low += 1;\n", "cell);\n"),
+    one("plain-cells-move", "collector", "stepping.rt", "if let Kind::Accessible = kind_of(read_place(s, *high)) {", "if let Kind::Plain = kind_of(read_place(s, *high)) {"),
+    one("low-not-raised", "collector", "stepping.rt", "*low);\n                *low += 1;\n", "*low);\n"),
     one("update-root-as-given", "collector", "stepping.rt", "regs.roots[*root] = normalise(s, v);", "regs.roots[*root] = v;"),
     one("update-place-raised-twice", "collector", "stepping.rt", "*place += 1;", "*place += 2;"),
     one("update-slot-not-written", "collector", "stepping.rt", "                stack::replace_slot(&mut regs.list, top.height, *slot, normal);\n", ""),
@@ -212,8 +219,8 @@ PLANTS = [
     one("bad-and-no-exchanged", "lines", "faults.rt", 'Layer::Tape => "bad"', 'Layer::Tape => "no"'),
     one("line-of-the-next-place", "lines", "granted.rt", "place: played.place,", "place: played.place.saturating_add(1),"),
     one("kind-before-place", "lines", "granted.rt", '"{place} {kind} ok"', '"{kind} {place} ok"', runs=["play"]),
-    one("text-with-short-bytes", "lines", "granted.rt", "{byte:02x}", "{byte:x}", runs=["replay"]),
-    one("pattern-with-few-digits", "lines", "granted.rt", "{pattern:08x}", "{pattern:x}", runs=["replay"]),
+    one("text-with-short-bytes", "lines", "granted.rt", "{byte:02x}", "{byte:x}", runs=["replay"], survives=NO_ZEROS),
+    one("pattern-with-few-digits", "lines", "granted.rt", "{pattern:08x}", "{pattern:x}", runs=["replay"], survives=NO_ZEROS),
     one("returned-turned", "lines", "granted.rt", "u8::from(returned)", "u8::from(!returned)", runs=["replay"]),
     one("census-not-printed", "lines", "granted.rt", 'Answer::Census(count) => write!(f, " {count}")', "Answer::Census(_) => Ok(())", runs=["play"]),
     one("fault-line-left-out", "lines", "listing.rt", "        write_fault(out, fault)?;\n    }\n    let count", "        let _ = fault;\n    }\n    let count", runs=["play"]),
@@ -222,20 +229,20 @@ PLANTS = [
     one("half-of-the-table", "play", "main.rt", "TableStore { cells: &mut cells }", "TableStore { cells: &mut cells[..512] }"),
     one("four-groups", "replay", "main.rt", "5 * 83", "4 * 83"),
     # ---- what the programs read
-    one("tape-of-one-byte-less", "input", LIB, "const LIMIT: usize = 65_536;", "const LIMIT: usize = 65_535;", runs=["replay"]),
+    one("tape-of-one-byte-less", "input", LIB, "const LIMIT: usize = 65_536;", "const LIMIT: usize = 65_535;", runs=["replay"], survives=SHORT_TAPES),
     one("tape-of-one-byte-more", "input", LIB, "const LIMIT: usize = 65_536;", "const LIMIT: usize = 65_537;"),
-    one("one-byte-less-read", "input", LIB, "take(LIMIT as u64)", "take(LIMIT as u64 - 1)", runs=["replay"]),
+    one("one-byte-less-read", "input", LIB, "take(LIMIT as u64)", "take(LIMIT as u64 - 1)", runs=["replay"], survives=SHORT_TAPES),
     # ---- the other programs
     one("dump-name-before-kind", "dump", "main.rt", '"{place} {kind} {name}"', '"{place} {name} {kind}"'),
-    one("dump-pattern-with-few-digits", "dump", "main.rt", "{pattern:08x}", "{pattern:x}"),
-    one("dump-text-with-short-bytes", "dump", "main.rt", "{byte:02x}", "{byte:x}"),
+    one("dump-pattern-with-few-digits", "dump", "main.rt", "{pattern:08x}", "{pattern:x}", survives=NO_ZEROS),
+    one("dump-text-with-short-bytes", "dump", "main.rt", "{byte:02x}", "{byte:x}", survives=NO_ZEROS),
     one("dump-begin-without-argument", "dump", "main.rt", "            | Record::Pdlput(n)\n            | Record::Begin(n) =>", "            | Record::Pdlput(n) =>"),
     one("dump-fault-left-out", "dump", "main.rt", "        let line = BadLine(fault);\n        writeln!(out, \"{line}\")?;\n", "        let _ = fault;\n"),
-    one("sessions-compare-no-census", "sessions", "compare.rt", "(Answer::Census(x), Answer::Census(y)) => x == y", "(Answer::Census(_), Answer::Census(_)) => true"),
-    one("sessions-compare-no-phase", "sessions", "compare.rt", "phase_word(x.phase) == phase_word(y.phase) && x.returned == y.returned", "x.returned == y.returned"),
-    one("sessions-compare-no-return", "sessions", "compare.rt", "phase_word(x.phase) == phase_word(y.phase) && x.returned == y.returned", "phase_word(x.phase) == phase_word(y.phase)"),
-    one("sessions-compare-no-number", "sessions", "compare.rt", "pattern_of(x) == pattern_of(y)", "true"),
-    one("sessions-compare-no-refusal", "sessions", "compare.rt", "refusal_number(x) == refusal_number(y)", "true"),
-    one("sessions-compare-not-at-all", "sessions", "compare.rt", "if !same_result(given.answer, wanted.answer) {", "if false {"),
-    one("bench-grants-all", "bench", "calls.rt", "if event.answer.is_ok() {", "if true {"),
+    one("sessions-compare-no-census", "sessions", "compare.rt", "(Answer::Census(x), Answer::Census(y)) => x == y", "(Answer::Census(_), Answer::Census(_)) => true", survives=AS_EXPECTED),
+    one("sessions-compare-no-phase", "sessions", "compare.rt", "phase_word(x.phase) == phase_word(y.phase) && x.returned == y.returned", "x.returned == y.returned", survives=AS_EXPECTED),
+    one("sessions-compare-no-return", "sessions", "compare.rt", "phase_word(x.phase) == phase_word(y.phase) && x.returned == y.returned", "phase_word(x.phase) == phase_word(y.phase)", survives=AS_EXPECTED),
+    one("sessions-compare-no-number", "sessions", "compare.rt", "pattern_of(x) == pattern_of(y)", "true", survives=AS_EXPECTED),
+    one("sessions-compare-no-refusal", "sessions", "compare.rt", "refusal_number(x) == refusal_number(y)", "true", survives=AS_EXPECTED),
+    one("sessions-compare-not-at-all", "sessions", "compare.rt", "if !same_result(given.answer, wanted.answer) {", "if false {", survives=AS_EXPECTED),
+    one("bench-grants-all", "tally", "calls.rt", "if event.answer.is_ok() {", "if true {"),
 ]

@@ -3,9 +3,10 @@
 
     simulate.py lines [CELLS] < TAPE    what `play` prints of a tape, on a heap of so many cells (1,024)
     simulate.py tape                    the tape in crates/replay/stdin, for a heap of 40 cells
+    simulate.py tape long               the same calls and more, up to the last byte that a program reads
     simulate.py random SEED             a tape of random calls, most of them granted
 
-The expected output of crates/replay is that of `simulate.py lines 40` on that tape.
+The expected output of crates/replay is that of `simulate.py lines 40` on its tape.
 """
 
 import random
@@ -329,7 +330,7 @@ EDITS = [
 ]
 
 
-def replay_tape():
+def replay_script():
     script = Script(40)
     do = script.do
     do("note replay")
@@ -358,6 +359,17 @@ def replay_tape():
     do("census")
     do("note list full")
     do("nil " * 257 + "number 1 load 0 pdlget 255 pdlput 255 popitem")
+    return script
+
+
+def replay_tape():
+    # a record cut short
+    return bytes(replay_script().tape) + b"\x02\x3f\x80"
+
+
+def long_tape():
+    script = replay_script()
+    do = script.do
     # leading zeros
     do("popitem number 1 look note \x01\x0f")
     # refused calls up to the last byte but one that a program reads, and a record whose body lies after it
@@ -390,7 +402,9 @@ def random_tape(seed):
 
 
 def main():
-    if sys.argv[1:2] == ["tape"]:
+    if sys.argv[1:] == ["tape", "long"]:
+        sys.stdout.buffer.write(long_tape())
+    elif sys.argv[1:] == ["tape"]:
         sys.stdout.buffer.write(replay_tape())
     elif sys.argv[1:2] == ["random"]:
         sys.stdout.buffer.write(random_tape(int(sys.argv[2])))
