@@ -244,5 +244,5 @@ PLANTS = [
     one("sessions-compare-no-number", "sessions", "compare.rt", "pattern_of(x) == pattern_of(y)", "true", survives=AS_EXPECTED),
     one("sessions-compare-no-refusal", "sessions", "compare.rt", "refusal_number(x) == refusal_number(y)", "true", survives=AS_EXPECTED),
     one("sessions-compare-not-at-all", "sessions", "compare.rt", "if !same_result(given.answer, wanted.answer) {", "if false {", survives=AS_EXPECTED),
-    one("bench-grants-all", "tally", "calls.rt", "if event.answer.is_ok() {", "if true {"),
+    one("tally-grants-all", "tally", "calls.rt", "event.answer.is_ok()", "event.answer.is_ok() || true"),
 ]

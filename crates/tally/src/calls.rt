@@ -1,11 +1,16 @@
 // The calls of a tape, as a log.
+ghost use Rattle.std.specs.Prelude.{◌≡◌, IfOk};
+ghost use Rattle.tally.specs.Calls.{calls_on, granted_in};
+
 use model::{Event, Refusal};
 use player::call_of;
 use std::alloc::{AllocError, Global};
 use tape::read_all;
 
 // A log of the tape's calls, whose answers are yet to be given.
-pub fn log_of(heap: Global, tape: &[u8]) -> Result<Vec<Event>, AllocError> {
+pub fn log_of(heap: Global, tape: &[u8]) -> Result<Vec<Event>, AllocError>
+    ensures { IfOk result (λ log. log.items ≡ calls_on tape.now) }
+{
     let reading = read_all(heap, tape)?;
     let mut log = Vec::new(heap);
     for placed in reading.records.iter() {
@@ -20,12 +25,8 @@ pub fn log_of(heap: Global, tape: &[u8]) -> Result<Vec<Event>, AllocError> {
 }
 
 // How many calls of a log were granted.
-pub fn granted(log: &[Event]) -> usize {
-    let mut count = 0;
-    for event in log {
-        if event.answer.is_ok() {
-            count += 1;
-        }
-    }
-    count
+pub fn granted(log: &[Event]) -> usize
+    ensures { result ≡ granted_in log.now }
+{
+    log.iter().filter(|event| event.answer.is_ok()).count()
 }
