@@ -2,7 +2,7 @@
 ghost use Rattle.std.specs.Prelude.{◌≡◌};
 ghost use Rattle.player.specs.Faults.{of_reader, of_memory, report_of};
 
-use model::{Refusal, refusal_number};
+use model::Refusal;
 use std::alloc::AllocError;
 use tape::{Layer, Record, TapeFault, kind_of};
 
@@ -44,7 +44,7 @@ impl PlayFault<'_> {
                 layer: fault.layer(),
             }),
             PlayFault::Heap(call) => Some(Report {
-                number: refusal_number(call.refusal),
+                number: call.refusal.number(),
                 place: call.place,
                 kind: kind_of(call.record),
                 layer: Layer::Heap,
