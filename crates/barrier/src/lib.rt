@@ -1,4 +1,5 @@
 // The heap's access to its places, and its two words, normalise and offer, over any store.
+// The list's height, the other registers and the store are taken apart, as a rule of the project has it: the height is to be lent alone.
 #![tactic(auto)]
 
 mod access;

@@ -1,4 +1,5 @@
 // The collector: begin starts a cycle, and step goes on with it.
+// Both take the list's height, the other registers and the store apart, as a rule of the project has it: the height is to be lent alone.
 #![tactic(auto)]
 
 mod answers;

@@ -24,10 +24,7 @@ fn shortened(next: Value, free: FreeList) -> Option<FreeList>
     ensures { result ≡ shorter next free }
 {
     match next {
-        Value::Cell(first) => Some(FreeList {
-            first,
-            last: free.last,
-        }),
+        Value::Cell(first) => Some(FreeList { first, ..free }),
         Value::Nil | Value::Number(_) => None,
     }
 }
@@ -44,16 +41,11 @@ pub fn create<S: CellStore>(top: &mut Top, regs: &mut Registers, s: &mut S) -> R
     offer_all(top, regs, s, parts);
     let vacant = read_place(s, free.first);
     regs.free = shortened(vacant.parts[0], free);
-    let mark = mark_of_new(regs.phase, free.first);
-    write_place(
-        s,
-        free.first,
-        Cell {
-            mark,
-            flag: false,
-            waiting: false,
-            parts,
-        },
-    );
+    let made = Cell {
+        mark: mark_of_new(regs.phase, free.first),
+        parts,
+        ..Cell::blank()
+    };
+    write_place(s, free.first, made);
     Ok(())
 }

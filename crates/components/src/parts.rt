@@ -4,7 +4,8 @@ ghost use Rattle.components.specs.Parts.{index};
 
 use model::Refusal;
 
-// The index at which a component lies; components count from 1.
+// The index at which a component lies; components count from 1. The components are reached by index, so a type of their own would be turned into
+// one at once.
 pub fn index_of(component: u8) -> Result<usize, Refusal>
     ensures { result ≡ index component }
 {

@@ -1,4 +1,5 @@
 // Every call with its answer, as one function over any store.
+// The calls are a closed list: a match over them says all, and a table of functions would hide which takes what.
 ghost use Rattle.std.specs.Prelude.{◌≡◌};
 ghost use Rattle.model.specs.Every.{call, list_call};
 ghost use Rattle.model.specs.Heap.{Done, view};

@@ -1,4 +1,5 @@
 // The calls on the list and the roots, over any store. Each contract is the call's rule in the model.
+// A call takes the list's height, the other registers and the store apart, as a rule of the project has it: the height is to be lent alone.
 #![tactic(auto)]
 
 mod pops;

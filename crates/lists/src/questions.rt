@@ -17,7 +17,8 @@ pub fn look<S: CellStore>(top: &Top, regs: &Registers, s: &S) -> Result<Looked, 
     Ok(v.into())
 }
 
-// Whether two values are one: numbers by their patterns, cells by their places.
+// Whether two values are one: numbers by their patterns, cells by their places. No derive compares so, and nothing else compares values, so that an
+// `impl PartialEq` with its laws would only say the same at greater length.
 fn same_value(a: Value, b: Value) -> bool
     ensures { result ≡ same a b }
 {

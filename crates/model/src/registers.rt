@@ -28,7 +28,8 @@ pub enum Phase {
     },
 }
 
-// The ends of the free list, which runs through the first components.
+// The ends of the free list, which runs through the first components: the cells are the caller's memory, and a list of their places elsewhere would
+// be memory that the heap may not ask for.
 #[derive(Clone, Copy)]
 pub struct FreeList {
     pub first: u32,
@@ -41,7 +42,8 @@ pub struct Top {
     pub height: usize,
 }
 
-// The roots, the memory of both stacks, the free list and the phase.
+// The roots, the memory of both stacks, the free list and the phase. Arrays with a height beside them, as a rule of the project has it: a heap
+// allocates nothing.
 #[derive(Drop)]
 pub struct Registers {
     pub phase: Phase,

@@ -37,7 +37,7 @@ fn end<S: CellStore>(s: &S) -> u32
     places(s)
 }
 
-// Counts the places that are not free.
+// Counts the places that are not free. The places are addresses in a store, behind calls: no slice is there to go over.
 pub fn census<S: CellStore>(s: &mut S) -> usize
     ensures value { result ≡ used (memory (S.meaning s.old)) }
     ensures same { S.meaning s.new ≡ S.meaning s.old }

@@ -48,7 +48,7 @@ fn free_place<S: CellStore>(s: &mut S, n: u32, place: u32)
     write_place(s, place, free_cell(n, place));
 }
 
-// Opens a heap over a store. Cells past the places stay as they are.
+// Opens a heap over a store, by its addresses, since no slice is there to go over. Cells past the places stay as they are.
 pub fn open<S: CellStore>(s: &mut S) -> Opened
     ensures { view result.top result.regs (S.meaning s.new) ≡ opened 2 (S.meaning s.old) }
 {

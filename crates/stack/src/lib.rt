@@ -1,4 +1,5 @@
 // A pushdown list in the lowest slots of a lent slice, with its height. Depth 0 is the top entry, index 0 the bottom slot.
+// Slots and height are taken apart, as a rule of the project has it: the array lies in the heap's registers, and the height may lie elsewhere.
 // No height is refused: one past the end of the slice counts as the slice's length.
 // The clauses `there` follow from `value`; they tell a caller at once in which case it is.
 #![tactic(auto)]

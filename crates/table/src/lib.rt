@@ -24,7 +24,7 @@ fn record_at(cells: &mut [CellRecord], place: u32) -> CellRecord
     }
 }
 
-// Replaces the record at a place, and with it the cell there; past the end nothing is written.
+// Replaces the record at a place, and with it the cell there; past the end nothing is written. By index: with `get_mut` four goals are left to show.
 fn put_record(cells: &mut [CellRecord], place: u32, kept: CellRecord)
     ensures exact { cells.new ≡ slice_set cells.old place kept }
     ensures meant { map meant_cell cells.new ≡ slice_set (map meant_cell cells.old) place (meant_cell kept) }

@@ -2,7 +2,8 @@
 ghost use Rattle.std.specs.Prelude.{◌≡◌};
 ghost use Rattle.values.specs.Cells.{blank, free_naming, kind};
 
-// What a slot of the heap holds: nothing, a number, or a cell named by its place.
+// What a slot of the heap holds: nothing, a number, or a cell named by its place. A derived equality would compare numbers as floats, where the
+// rules compare their patterns.
 #[derive(Clone, Copy)]
 pub enum Value {
     Nil,
@@ -10,7 +11,8 @@ pub enum Value {
     Cell(u32),
 }
 
-// A cell: three bits and its components, which the rules reach by index.
+// A cell: three bits and its components, which the rules reach by index. The bits stand apart and not as a kind, since that is how every store
+// keeps them.
 #[derive(Clone, Copy)]
 pub struct Cell {
     pub mark: bool,

@@ -1,4 +1,4 @@
-// Numbers and their patterns of 32 bits.
+// Numbers and their patterns of 32 bits. Functions, and not `From`: neither type is of this crate.
 ghost use Rattle.std.specs.Prelude.{◌≡◌, from_bits, to_bits};
 ghost use Rattle.std.specs.Float.{binary32};
 ghost use Rattle.values.specs.Numbers.{canonical};
