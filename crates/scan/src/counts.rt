@@ -37,7 +37,8 @@ fn end<S: CellStore>(s: &S) -> u32
     places(s)
 }
 
-// Counts the places that are not free. The places are addresses in a store, behind calls: no slice is there to go over.
+// Counts the places that are not free. The places are addresses in a store, behind calls: no slice is there to go over. A chain that ends in `count`
+// was tried: nothing is known then of what it leaves of the store that its closure borrows.
 pub fn census<S: CellStore>(s: &mut S) -> usize
     ensures value { result ≡ used (memory (S.meaning s.old)) }
     ensures same { S.meaning s.new ≡ S.meaning s.old }
