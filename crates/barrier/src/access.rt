@@ -17,6 +17,7 @@ pub fn places<S: CellStore>(s: &S) -> u32
 }
 
 // Whether the heap uses a place, if the store has it: any other reads blank and is never written.
+#[tactic(auto, unfolding(model::specs::Heap::cell_in, model::specs::Heap::cells_with))]
 fn in_reach(place: u32) -> bool
     ensures read { (cells : List CellT) → cell_in cells place ≡ cond result (get_or cells place blank) blank }
     ensures write { (cells : List CellT) (cell : CellT) → cells_with cells place cell ≡ cond result (set cells place cell) cells }

@@ -1,7 +1,8 @@
 // The census: how many places are in use.
-ghost use Rattle.std.specs.Prelude.{◌≡◌, ℕ, ◌+◌, ◌<◌, ◌≤◌, min, length, take, drop};
-ghost use Rattle.model.specs.Heap.{memory};
-ghost use Rattle.model.specs.Steps.{in_use, used, used_in};
+ghost use Rattle.std.specs.Prelude.{◌≡◌, ◌≤◌};
+ghost use Rattle.model.specs.Heap.{cell_in, memory};
+ghost use Rattle.model.specs.Steps.{in_use, used};
+ghost use Rattle.values.specs.Cells.{kind};
 
 use barrier::{places, read_place};
 use store::CellStore;
@@ -20,8 +21,7 @@ fn in_use(kind: Kind) -> usize
 
 // What a place adds to the count of those after it.
 fn use_of<S: CellStore>(s: &mut S, place: u32) -> usize
-    requires { place < min 4096 (length (S.meaning s.old)) }
-    ensures value { used_in (drop place (take 4096 (S.meaning s.old))) ≡ result + used_in (drop (place + 1) (take 4096 (S.meaning s.old))) }
+    ensures value { result ≡ in_use (kind (cell_in (S.meaning s.old) place)) }
     ensures bound { result ≤ 1 }
     ensures same { S.meaning s.new ≡ S.meaning s.old }
 {
@@ -29,22 +29,15 @@ fn use_of<S: CellStore>(s: &mut S, place: u32) -> usize
     in_use(cell.kind())
 }
 
-// N, the number of places: from it on nothing is in use.
-fn end<S: CellStore>(s: &S) -> u32
-    ensures value { result ≡ min 4096 (length (S.meaning s.now)) }
-    ensures none { (p : ℕ) → result ≤ p → used_in (drop p (take 4096 (S.meaning s.now))) ≡ 0 }
-{
-    places(s)
-}
-
 // Counts the places that are not free. The places are addresses in a store, behind calls: no slice is there to go over. A chain that ends in `count`
 // was tried: nothing is known then of what it leaves of the store that its closure borrows.
+#[tactic(auto, using(crate::proofs::Turns::used_more, crate::proofs::Turns::used_all))]
 pub fn census<S: CellStore>(s: &mut S) -> usize
     ensures value { result ≡ used (memory (S.meaning s.old)) }
     ensures same { S.meaning s.new ≡ S.meaning s.old }
 {
     let mut count = 0;
-    for place in 0..end(s) {
+    for place in 0..places(s) {
         count += use_of(s, place);
     }
     count

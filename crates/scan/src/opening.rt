@@ -1,8 +1,6 @@
 // The opening: every place becomes free, in rising order, whatever its cell held before.
-ghost use Rattle.std.specs.Prelude.{◌≡◌, ◌+◌, ◌<◌, min, List, ◌++◌, map, length, drop};
-ghost use Rattle.std.specs.List.{range_with_len};
-ghost use Rattle.values.specs.declared.cells.Cell.{Cell as CellT};
-ghost use Rattle.model.specs.Heap.{cells_with, view};
+ghost use Rattle.std.specs.Prelude.{◌≡◌, ◌<◌};
+ghost use Rattle.model.specs.Heap.{view};
 ghost use Rattle.model.specs.Steps.{free_cell, all_free, opened};
 
 use barrier::{places, write_place};
@@ -39,22 +37,14 @@ fn all_free(n: u32) -> Option<FreeList>
     Some(FreeList { first: 0, last })
 }
 
-// Frees a place of n and no other. `next`: where those below it are free and the others as they were, it is so one place further.
-fn free_place<S: CellStore>(s: &mut S, n: u32, place: u32)
-    requires { place < n }
-    ensures exact { S.meaning s.new ≡ cells_with (S.meaning s.old) place (free_cell n place) }
-    ensures next { (cells : List CellT) → place < min 4096 (length cells) → S.meaning s.old ≡ map (free_cell n) (range_with_len 0 place) ++ drop place cells → S.meaning s.new ≡ map (free_cell n) (range_with_len 0 (place + 1)) ++ drop (place + 1) cells }
-{
-    write_place(s, place, free_cell(n, place));
-}
-
 // Opens a heap over a store, by its addresses, since no slice is there to go over. Cells past the places stay as they are.
+#[tactic(auto, using(crate::proofs::Turns::fill_turn))]
 pub fn open<S: CellStore>(s: &mut S) -> Opened
     ensures { view result.top result.regs (S.meaning s.new) ≡ opened 2 (S.meaning s.old) }
 {
     let n = places(s);
     for place in 0..n {
-        free_place(s, n, place);
+        write_place(s, place, free_cell(n, place));
     }
     Opened {
         top: Top { height: 0 },

@@ -16,6 +16,7 @@ use std::mem;
 pub struct Full;
 
 // How many slots are in use, which is how many entries there are.
+#[tactic(auto, using(crate::proofs::Entries::held))]
 fn used<T: Copy>(slots: &[T], height: usize) -> usize
     ensures { Held height slots.now result }
 {
