@@ -107,12 +107,12 @@ PLANTS = [
     # ---- the tape
     one("clobber-read-as-select", "tape", "reader.rt", "Record::Clobber(*part)", "Record::Select(*part)"),
     one("cut-begin-as-unknown", "tape", "reader.rt", "[1..=15, ..]", "[1..=12, ..]"),
-    one("empty-tape-as-cut", "tape", "reader.rt", "[] => return Ok(None)", "[] => return Err(FaultKind::CutShort)"),
+    one("empty-tape-as-cut", "tape", "reader.rt", "[] => Ok(None)", "[] => Err(FaultKind::CutShort)"),
     one("kind-17-as-cut", "tape", "reader.rt", "[1..=15, ..]", "[1..=17, ..]"),
     one("fault-at-the-start", "tape", "reader.rt", "Err(TapeFault { what, rest: from })", "Err(TapeFault { what, rest: Rest::start(from.tape) })"),
     one("place-one-short", "tape", "reader.rt", "from.place.saturating_add(size)", "from.place.saturating_add(size).saturating_sub(1)"),
-    one("unknown-kind-as-9", "tape", "faults.rt", "FaultKind::UnknownKind => 8", "FaultKind::UnknownKind => 9"),
-    one("fault-forgotten", "tape", "whole.rt", "fault: Some(fault),", "fault: None,"),
+    one("unknown-kind-as-9", "tape", "faults.rt", "self as u8", "FaultKind::CutShort as u8"),
+    one("fault-forgotten", "tape", "whole.rt", "Err(fault) => break Some(fault)", "Err(_) => break None"),
     one("record-after-its-place", "tape", "whole.rt", "place: rest.place,", "place: taken.rest.place,"),
     one("number-of-load-as-store", "tape", "records.rt", "Record::Load(_) => 3", "Record::Load(_) => 4"),
     # ---- numbers and words of answers
