@@ -1,10 +1,10 @@
 // Lists the records of the tape on standard input, one to a line.
 #![tactic(auto)]
 
-ghost use Rattle.std.specs.Prelude.{◌++◌, Some, codes, decimal};
-ghost use Rattle.tape.specs.Faults.{fault_number};
-ghost use Rattle.tape.specs.Format.{entry_of, first, kind};
-ghost use Rattle.tape.specs.Printed.{printed};
+ghost use Rattle.std.specs.Prelude.{Some};
+ghost use Rattle.dump.specs.Lines.{fault_line, record_line};
+ghost use Rattle.tape.specs.Format.{entry_of};
+ghost use Rattle.tape.specs.Reading.{fault_of};
 
 use input::read_tape;
 use std::io::{BufWriter, Write};
@@ -16,7 +16,7 @@ use tape::{Placed, Reading, TapeFault, read_all};
 struct Line<'a>(Placed<'a>);
 
 impl fmt::Display for Line<'_> {
-    ghost output = { λ l. let e = entry_of l.0.«record» in Some (decimal l.0.place ++ (codes " " ++ (decimal (kind e).number ++ (codes " " ++ printed e)))) };
+    ghost output = { λ l. Some (record_line l.0.place (entry_of l.0.«record»)) };
 
     fn fmt<W: fmt::Write>(&self, f: &mut fmt::Formatter<W>) -> fmt::Result {
         let Placed { place, record } = self.0;
@@ -30,7 +30,7 @@ impl fmt::Display for Line<'_> {
 struct BadLine<'a>(TapeFault<'a>);
 
 impl fmt::Display for BadLine<'_> {
-    ghost output = { λ l. Some (decimal l.0.rest.place ++ (codes " " ++ (decimal (first l.0.rest.tape.now) ++ (codes " bad " ++ decimal (fault_number l.0.what))))) };
+    ghost output = { λ l. Some (fault_line (fault_of l.0)) };
 
     fn fmt<W: fmt::Write>(&self, f: &mut fmt::Formatter<W>) -> fmt::Result {
         let place = self.0.rest.place;
