@@ -1,10 +1,9 @@
 // Lists the records of the tape on standard input, one to a line.
 #![tactic(auto)]
 
-ghost use Rattle.std.specs.Prelude.{Some};
-ghost use Rattle.dump.specs.Lines.{fault_line, record_line};
-ghost use Rattle.tape.specs.Format.{entry_of};
-ghost use Rattle.tape.specs.Reading.{fault_of};
+ghost use Rattle.std.specs.Io.KnownBytes.{Appends};
+ghost use Rattle.std.specs.Prelude.{OnOk, Some};
+ghost use Rattle.dump.specs.Lines.{fault_line, listing, record_line};
 
 use input::read_tape;
 use std::io::{BufWriter, Write};
@@ -16,7 +15,7 @@ use tape::{Placed, Reading, TapeFault, read_all};
 struct Line<'a>(Placed<'a>);
 
 impl fmt::Display for Line<'_> {
-    ghost output = { λ l. Some (record_line l.0.place (entry_of l.0.«record»)) };
+    ghost output = { λ l. Some (record_line l.0) };
 
     fn fmt<W: fmt::Write>(&self, f: &mut fmt::Formatter<W>) -> fmt::Result {
         let Placed { place, record } = self.0;
@@ -30,7 +29,7 @@ impl fmt::Display for Line<'_> {
 struct BadLine<'a>(TapeFault<'a>);
 
 impl fmt::Display for BadLine<'_> {
-    ghost output = { λ l. Some (fault_line (fault_of l.0)) };
+    ghost output = { λ l. Some (fault_line l.0) };
 
     fn fmt<W: fmt::Write>(&self, f: &mut fmt::Formatter<W>) -> fmt::Result {
         let place = self.0.rest.place;
@@ -40,7 +39,9 @@ impl fmt::Display for BadLine<'_> {
     }
 }
 
-fn list<W: Write>(out: &mut W, reading: &Reading<'_>) -> io::Result<()> {
+fn list<W: Write>(out: &mut W, reading: &Reading<'_>) -> io::Result<()>
+    ensures { OnOk result (Appends (W.contents out.old) (W.contents out.new) (listing reading.now)) }
+{
     for placed in reading.records.iter() {
         let line = Line(*placed);
         writeln!(out, "{line}")?;
