@@ -5,7 +5,7 @@ ghost use Rattle.values.specs.Cells.{blank};
 ghost use Rattle.values.specs.declared.cells.Cell.{Cell as CellT};
 
 use store::CellStore;
-use values::{Cell, blank_cell};
+use values::Cell;
 
 const MOST_PLACES: u32 = 4096;
 
@@ -32,7 +32,7 @@ pub fn read_place<S: CellStore>(s: &mut S, place: u32) -> Cell
     if in_reach(place) {
         s.read(place)
     } else {
-        blank_cell()
+        Cell::blank()
     }
 }
 

@@ -5,7 +5,7 @@ ghost use Rattle.model.specs.Words.{normal, normal_all};
 
 use crate::access::read_place;
 use store::CellStore;
-use values::{Kind, Value, kind_of};
+use values::{Kind, Value};
 
 pub fn normalise<S: CellStore>(s: &mut S, v: Value) -> Value
     ensures value { result ≡ normal (memory (S.meaning s.old)) v }
@@ -15,9 +15,10 @@ pub fn normalise<S: CellStore>(s: &mut S, v: Value) -> Value
         return v;
     };
     let cell = read_place(s, place);
-    match kind_of(cell) {
-        Kind::Moved => cell.parts[0],
-        Kind::Plain | Kind::Accessible | Kind::Free => Value::Cell(place),
+    if cell.kind() == Kind::Moved {
+        cell.parts[0]
+    } else {
+        v
     }
 }
 

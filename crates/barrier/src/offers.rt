@@ -6,7 +6,7 @@ ghost use Rattle.model.specs.Words.{offered, offered_all};
 use crate::access::{places, read_place, write_place};
 use model::{Phase, Registers, Top};
 use store::CellStore;
-use values::{Cell, Kind, Value, kind_of};
+use values::{Cell, Kind, Value};
 
 // Offers a value; a full collector stack takes no more. `top` is there for the contract, which speaks of the whole heap.
 pub fn offer<S: CellStore>(top: &Top, regs: &mut Registers, s: &mut S, v: Value)
@@ -22,13 +22,10 @@ pub fn offer<S: CellStore>(top: &Top, regs: &mut Registers, s: &mut S, v: Value)
         return;
     }
     let cell = read_place(s, place);
-    let Kind::Plain = kind_of(cell) else {
-        return;
-    };
-    if cell.waiting {
+    if cell.kind() != Kind::Plain || cell.waiting {
         return;
     }
-    if stack::push(&mut regs.pending, &mut regs.pending_height, place as u16) {
+    if stack::push(&mut regs.pending, &mut regs.pending_height, place as u16).is_ok() {
         let waiting = Cell {
             waiting: true,
             ..cell

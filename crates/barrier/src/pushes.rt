@@ -19,10 +19,7 @@ pub fn push_value<S: CellStore>(
     ensures { ◌≡◌ {A = Done (Unit {0})} (record { says = result; heap = view top.new regs.new (S.meaning s.new) }) (push v (view top.old regs.old (S.meaning s.old))) }
 {
     let normal = normalise(s, v);
-    if stack::push(&mut regs.list, &mut top.height, normal) {
-        offer(top, regs, s, normal);
-        Ok(())
-    } else {
-        Err(Refusal::ListFull)
-    }
+    stack::push(&mut regs.list, &mut top.height, normal).map_err(|_| Refusal::ListFull)?;
+    offer(top, regs, s, normal);
+    Ok(())
 }

@@ -9,14 +9,14 @@ use packed::PackedStore;
 use std::io;
 use std::io::Read;
 use table::TableStore;
-use values::{CellRecord, blank_cell, record_of};
+use values::{Cell, CellRecord};
 
 const LIMIT: u64 = 1_024;
 
 fn over_table(rt: &HostRuntime, log: &mut [Event]) -> io::Result<()> {
     let mut cells: Vec<CellRecord> = Vec::new(rt.alloc());
     for _ in 0..4096 {
-        cells.push(record_of(blank_cell()))?;
+        cells.push(Cell::blank().into())?;
     }
     let mut store = TableStore {
         cells: cells.as_mut_slice(),

@@ -9,7 +9,7 @@ use barrier::{normalise, offer, offer_all, places, read_place};
 use model::{Phase, Refusal, Registers, Stepped, Top};
 use steps::{clear_mark, mark_place, move_cell, return_place, update_cell};
 use store::CellStore;
-use values::{Kind, kind_of};
+use values::Kind;
 
 // Does the first thing of its phase that is left to do. The cursors stand in the registers, and are lent from there:
 // one is moved on before a call that takes the registers whole.
@@ -47,12 +47,12 @@ pub fn step<S: CellStore>(top: &Top, regs: &mut Registers, s: &mut S) -> Result<
                 };
                 return done(regs, false);
             }
-            let Kind::Plain = kind_of(read_place(s, *low)) else {
+            if read_place(s, *low).kind() != Kind::Plain {
                 *low += 1;
                 return done(regs, false);
-            };
+            }
             *high -= 1;
-            if let Kind::Accessible = kind_of(read_place(s, *high)) {
+            if read_place(s, *high).kind() == Kind::Accessible {
                 move_cell(s, *high, *low);
                 *low += 1;
             }
@@ -81,7 +81,7 @@ pub fn step<S: CellStore>(top: &Top, regs: &mut Registers, s: &mut S) -> Result<
                 return done(regs, false);
             }
             *sweep += 1;
-            match kind_of(read_place(s, place)) {
+            match read_place(s, place).kind() {
                 Kind::Plain | Kind::Moved => {
                     return_place(&mut regs.free, s, place);
                     return done(regs, true);

@@ -19,9 +19,7 @@ pub fn clobber<S: CellStore>(
     ensures { ◌≡◌ {A = Done (Unit {0})} (record { says = result; heap = view top.new regs.new (S.meaning s.new) }) (clobber component (view top.old regs.old (S.meaning s.old))) }
 {
     let index = index_of(component)?;
-    let Some(two) = stack::last_two(&regs.list, top.height) else {
-        return Err(Refusal::TooFew);
-    };
+    let two = stack::last_two(&regs.list, top.height).ok_or(Refusal::TooFew)?;
     let Value::Cell(place) = normalise(s, two[0]) else {
         return Err(Refusal::NotACell);
     };

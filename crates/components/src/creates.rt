@@ -36,12 +36,8 @@ fn shortened(next: Value, free: FreeList) -> Option<FreeList>
 pub fn create<S: CellStore>(top: &mut Top, regs: &mut Registers, s: &mut S) -> Result<(), Refusal>
     ensures { ◌≡◌ {A = Done (Unit {0})} (record { says = result; heap = view top.new regs.new (S.meaning s.new) }) (create (view top.old regs.old (S.meaning s.old))) }
 {
-    let Some(two) = stack::last_two(&regs.list, top.height) else {
-        return Err(Refusal::TooFew);
-    };
-    let Some(free) = regs.free else {
-        return Err(Refusal::NoSpace);
-    };
+    let two = stack::last_two(&regs.list, top.height).ok_or(Refusal::TooFew)?;
+    let free = regs.free.ok_or(Refusal::NoSpace)?;
     let parts = normalise_all(s, two);
     stack::discard(&regs.list, &mut top.height, 1);
     stack::replace(&mut regs.list, top.height, 0, Value::Cell(free.first));

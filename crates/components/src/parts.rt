@@ -8,7 +8,7 @@ use model::Refusal;
 pub fn index_of(component: u8) -> Result<usize, Refusal>
     ensures { result ≡ index component }
 {
-    if component < 1 || component > 2 {
+    if !(1..=2).contains(&component) {
         return Err(Refusal::OutOfRange);
     }
     Ok((component - 1) as usize)

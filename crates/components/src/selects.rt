@@ -19,9 +19,7 @@ pub fn select<S: CellStore>(
     ensures { ◌≡◌ {A = Done (Unit {0})} (record { says = result; heap = view top.new regs.new (S.meaning s.new) }) (select component (view top.old regs.old (S.meaning s.old))) }
 {
     let index = index_of(component)?;
-    let Some(v) = stack::peek(&regs.list, top.height, 0) else {
-        return Err(Refusal::TooFew);
-    };
+    let v = stack::peek(&regs.list, top.height, 0).ok_or(Refusal::TooFew)?;
     let Value::Cell(place) = normalise(s, v) else {
         return Err(Refusal::NotACell);
     };

@@ -3,11 +3,10 @@ ghost use Rattle.std.specs.Prelude.{◌≡◌};
 ghost use Rattle.lines.specs.Lines.{line_of};
 
 use crate::faults::ProgramFault;
-use model::{Answer, Looked, Stepped, looked_word, phase_word, same_word};
+use model::Answer;
 use player::Played;
 use std::fmt;
 use tape::{Record, kind_of};
-use values::pattern_of;
 
 // A record, its place, and what its call was answered, nothing for a note.
 #[derive(Clone, Copy)]
@@ -38,8 +37,8 @@ impl fmt::Display for Line<'_> {
             write_text(f, text)?;
         }
         match self.answer {
-            Some(answer) => write_answer(f, answer),
-            None => Ok(()),
+            None | Some(Answer::Done) => Ok(()),
+            Some(answer) => write!(f, " {answer}"),
         }
     }
 }
@@ -51,34 +50,4 @@ fn write_text<W: fmt::Write>(f: &mut fmt::Formatter<W>, text: &[u8; 12]) -> fmt:
         write!(f, "{byte:02x}")?;
     }
     Ok(())
-}
-
-fn write_answer<W: fmt::Write>(f: &mut fmt::Formatter<W>, answer: Answer) -> fmt::Result {
-    match answer {
-        Answer::Done => Ok(()),
-        Answer::Same(same) => {
-            let word = same_word(same);
-            write!(f, " {word}")
-        }
-        Answer::Look(looked) => write_looked(f, looked),
-        Answer::Step(Stepped { phase, returned }) => {
-            let word = phase_word(phase);
-            let places = u8::from(returned);
-            write!(f, " {word} {places}")
-        }
-        Answer::Census(count) => write!(f, " {count}"),
-    }
-}
-
-// What a look saw: its kind, and a number's pattern.
-fn write_looked<W: fmt::Write>(f: &mut fmt::Formatter<W>, looked: Looked) -> fmt::Result {
-    let word = looked_word(looked);
-    write!(f, " {word}")?;
-    match looked {
-        Looked::Number(x) => {
-            let pattern = pattern_of(x);
-            write!(f, " {pattern:08x}")
-        }
-        Looked::Nil | Looked::Cell => Ok(()),
-    }
 }

@@ -19,9 +19,7 @@ pub fn store<S: CellStore>(
     if root as usize >= regs.roots.len() {
         return Err(Refusal::OutOfRange);
     }
-    let Some(v) = stack::peek(&regs.list, top.height, 0) else {
-        return Err(Refusal::TooFew);
-    };
+    let v = stack::peek(&regs.list, top.height, 0).ok_or(Refusal::TooFew)?;
     let normal = normalise(s, v);
     stack::discard(&regs.list, &mut top.height, 1);
     regs.roots[root as usize] = normal;
@@ -41,13 +39,9 @@ pub fn pdlput<S: CellStore>(
     if depth == 0 {
         return Err(Refusal::OutOfRange);
     }
-    let Some(v) = stack::peek(&regs.list, top.height, 0) else {
-        return Err(Refusal::TooFew);
-    };
+    let v = stack::peek(&regs.list, top.height, 0).ok_or(Refusal::TooFew)?;
     let normal = normalise(s, v);
-    if !stack::replace(&mut regs.list, top.height, depth as usize, normal) {
-        return Err(Refusal::TooFew);
-    }
+    stack::replace(&mut regs.list, top.height, depth as usize, normal).ok_or(Refusal::TooFew)?;
     stack::discard(&regs.list, &mut top.height, 1);
     offer(top, regs, s, normal);
     Ok(())
@@ -57,8 +51,6 @@ pub fn pdlput<S: CellStore>(
 pub fn popitem<S: CellStore>(top: &mut Top, regs: &Registers, s: &S) -> Result<(), Refusal>
     ensures { ◌≡◌ {A = Done (Unit {0})} (record { says = result; heap = view top.new regs.now (S.meaning s.now) }) (popitem (view top.old regs.now (S.meaning s.now))) }
 {
-    match stack::pop(&regs.list, &mut top.height) {
-        Some(_) => Ok(()),
-        None => Err(Refusal::TooFew),
-    }
+    stack::pop(&regs.list, &mut top.height).ok_or(Refusal::TooFew)?;
+    Ok(())
 }

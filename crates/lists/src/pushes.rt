@@ -36,10 +36,8 @@ pub fn load<S: CellStore>(
 ) -> Result<(), Refusal>
     ensures { ◌≡◌ {A = Done (Unit {0})} (record { says = result; heap = view top.new regs.new (S.meaning s.new) }) (load root (view top.old regs.old (S.meaning s.old))) }
 {
-    if root as usize >= regs.roots.len() {
-        return Err(Refusal::OutOfRange);
-    }
-    push_value(top, regs, s, regs.roots[root as usize])
+    let rooted = stack::item(&regs.roots, root as usize).ok_or(Refusal::OutOfRange)?;
+    push_value(top, regs, s, rooted)
 }
 
 // Pushes a copy of the value at `depth` below the top.
@@ -51,8 +49,6 @@ pub fn pdlget<S: CellStore>(
 ) -> Result<(), Refusal>
     ensures { ◌≡◌ {A = Done (Unit {0})} (record { says = result; heap = view top.new regs.new (S.meaning s.new) }) (pdlget depth (view top.old regs.old (S.meaning s.old))) }
 {
-    let Some(v) = stack::peek(&regs.list, top.height, depth as usize) else {
-        return Err(Refusal::TooFew);
-    };
+    let v = stack::peek(&regs.list, top.height, depth as usize).ok_or(Refusal::TooFew)?;
     push_value(top, regs, s, v)
 }

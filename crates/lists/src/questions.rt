@@ -1,6 +1,6 @@
 // The calls that ask about values.
 ghost use Rattle.std.specs.Prelude.{Bool, ◌≡◌};
-ghost use Rattle.model.specs.Calls.{looked, look, same, identical};
+ghost use Rattle.model.specs.Calls.{look, same, identical};
 ghost use Rattle.model.specs.Heap.{Done, view};
 ghost use Rattle.model.specs.declared.answers.Looked.{Looked as LookedT};
 
@@ -9,25 +9,12 @@ use model::{Looked, Refusal, Registers, Top};
 use store::CellStore;
 use values::{Value, pattern_of};
 
-// What a look tells of a value.
-fn looked_at(v: Value) -> Looked
-    ensures { result ≡ looked v }
-{
-    match v {
-        Value::Nil => Looked::Nil,
-        Value::Number(x) => Looked::Number(x),
-        Value::Cell(_) => Looked::Cell,
-    }
-}
-
 // The kind of the top value, and the number if it is one. `s` is there for the contract, which speaks of the whole heap.
 pub fn look<S: CellStore>(top: &Top, regs: &Registers, s: &S) -> Result<Looked, Refusal>
     ensures { ◌≡◌ {A = Done LookedT} (record { says = result; heap = view top.now regs.now (S.meaning s.now) }) (look (view top.now regs.now (S.meaning s.now))) }
 {
-    match stack::peek(&regs.list, top.height, 0) {
-        Some(v) => Ok(looked_at(v)),
-        None => Err(Refusal::TooFew),
-    }
+    let v = stack::peek(&regs.list, top.height, 0).ok_or(Refusal::TooFew)?;
+    Ok(v.into())
 }
 
 // Whether two values are one: numbers by their patterns, cells by their places.
@@ -46,9 +33,7 @@ fn same_value(a: Value, b: Value) -> bool
 pub fn identical<S: CellStore>(top: &mut Top, regs: &Registers, s: &mut S) -> Result<bool, Refusal>
     ensures { ◌≡◌ {A = Done Bool} (record { says = result; heap = view top.new regs.now (S.meaning s.new) }) (identical (view top.old regs.now (S.meaning s.old))) }
 {
-    let Some(two) = stack::last_two(&regs.list, top.height) else {
-        return Err(Refusal::TooFew);
-    };
+    let two = stack::last_two(&regs.list, top.height).ok_or(Refusal::TooFew)?;
     let below = normalise(s, two[0]);
     let above = normalise(s, two[1]);
     stack::discard(&regs.list, &mut top.height, 2);

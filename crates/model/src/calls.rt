@@ -1,4 +1,7 @@
 // The calls that a host can make of a heap.
+ghost use Rattle.std.specs.Prelude.{◌≡◌};
+ghost use Rattle.model.specs.Answers.{asked};
+
 use crate::answers::{Answer, Refusal};
 
 // The calls of a list script.
@@ -32,4 +35,16 @@ pub enum Call {
 pub struct Event {
     pub call: Call,
     pub answer: Result<Answer, Refusal>,
+}
+
+impl Event {
+    // A call that is yet to be answered.
+    pub fn asked(call: Call) -> Event
+        ensures { result ≡ asked call }
+    {
+        Event {
+            call,
+            answer: Err(Refusal::AtRest),
+        }
+    }
 }

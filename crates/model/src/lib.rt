@@ -5,8 +5,6 @@ mod answers;
 mod calls;
 mod registers;
 
-pub use answers::{
-    Answer, Looked, PhaseName, Refusal, Stepped, looked_word, phase_word, refusal_number, same_word,
-};
+pub use answers::{Answer, Looked, PhaseName, Refusal, Stepped};
 pub use calls::{Call, Event, ListCall};
 pub use registers::{FreeList, Phase, Registers, Top};

@@ -12,7 +12,7 @@ ghost use Rattle.packed.specs.Groups.{cells_in, spare, written};
 
 use groups::{cell_count, read_cell, write_cell};
 use store::CellStore;
-use values::{Cell, blank_cell};
+use values::Cell;
 
 #[derive(Drop)]
 pub struct PackedStore<'a> {
@@ -34,7 +34,7 @@ impl CellStore for PackedStore<'_> {
         ensures tied { self.new.bytes.ghost_name ≡ self.old.bytes.ghost_name }
     {
         if place as usize >= cell_count(self.bytes.len()) {
-            return blank_cell();
+            return Cell::blank();
         }
         read_cell(self.bytes, place)
     }

@@ -2,7 +2,7 @@
 ghost use Rattle.std.specs.Prelude.{◌≡◌};
 ghost use Rattle.player.specs.Faults.{of_heap, of_reader, of_memory, report_of};
 
-use model::{Refusal, refusal_number};
+use model::Refusal;
 use std::alloc::AllocError;
 use tape::{Layer, Placed, TapeFault};
 
@@ -43,7 +43,7 @@ impl PlayFault<'_> {
                 layer: fault.layer(),
             }),
             PlayFault::Heap(call) => Some(Report {
-                number: refusal_number(call.refusal),
+                number: call.refusal.number(),
                 place: call.placed.place,
                 kind: call.placed.record.kind(),
                 layer: Layer::Heap,

@@ -5,7 +5,7 @@ ghost use Rattle.model.specs.Steps.{in_use, used, used_in};
 
 use barrier::{places, read_place};
 use store::CellStore;
-use values::{Kind, kind_of};
+use values::Kind;
 
 // What a place of this kind adds to the count; the bound keeps the sum from wrapping.
 fn in_use(kind: Kind) -> usize
@@ -26,7 +26,7 @@ fn use_of<S: CellStore>(s: &mut S, place: u32) -> usize
     ensures same { S.meaning s.new ≡ S.meaning s.old }
 {
     let cell = read_place(s, place);
-    in_use(kind_of(cell))
+    in_use(cell.kind())
 }
 
 // N, the number of places: from it on nothing is in use.

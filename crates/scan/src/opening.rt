@@ -28,26 +28,15 @@ fn free_cell(n: u32, place: u32) -> Cell
     } else {
         Value::Nil
     };
-    Cell {
-        mark: true,
-        flag: true,
-        waiting: false,
-        parts: [first, Value::Nil],
-    }
+    Cell::free(first)
 }
 
 // The free list of all of n places.
 fn all_free(n: u32) -> Option<FreeList>
     ensures { result ≡ all_free n }
 {
-    if n == 0 {
-        None
-    } else {
-        Some(FreeList {
-            first: 0,
-            last: n - 1,
-        })
-    }
+    let last = n.checked_sub(1)?;
+    Some(FreeList { first: 0, last })
 }
 
 // Frees a place of n and no other. `next`: where those below it are free and the others as they were, it is so one place further.

@@ -11,7 +11,7 @@ use scripts::Session;
 use std::alloc::{AllocError, Global};
 use std::io;
 use table::TableStore;
-use values::{CellRecord, blank_cell, record_of};
+use values::{Cell, CellRecord};
 
 // The calls of a session, their answers not yet given.
 fn unanswered(heap: Global, session: &Session) -> Result<Vec<Event>, AllocError> {
@@ -29,7 +29,7 @@ fn over_table(heap: Global, session: &Session) -> Result<Vec<Event>, AllocError>
     let mut cells: Vec<CellRecord> = Vec::new(heap);
     for _ in 0..session.groups {
         for _ in 0..8 {
-            cells.push(record_of(blank_cell()))?;
+            cells.push(Cell::blank().into())?;
         }
     }
     let mut log = unanswered(heap, session)?;

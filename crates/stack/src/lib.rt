@@ -3,10 +3,16 @@
 // The clauses `there` follow from `value`; they tell a caller at once in which case it is.
 #![tactic(auto)]
 
-ghost use Rattle.std.specs.Prelude.{◌≡◌, ◌+◌, ◌-◌, ◌<◌, ◌≤◌, min, ◌∷◌, reverse, length, drop, if◌then◌else◌, MatchOption, nat_lt, slice_set};
+ghost use Rattle.std.specs.Prelude.{◌≡◌, ◌+◌, ◌-◌, ◌<◌, ◌≤◌, min, ◌∷◌, reverse, length, drop, if◌then◌else◌, MatchOption, nat_lt, slice_set, is_ok, is_some, Ok, Err};
 ghost use Rattle.std.specs.List.{slice_get};
 ghost use Rattle.stack.specs.Entries.{stacked, tail, last_of};
 ghost use Rattle.stack.specs.Slots.{Held};
+
+use std::mem;
+
+// There is no room for another entry.
+#[derive(Clone, Copy, Debug, PartialEq, Eq)]
+pub struct Full;
 
 // How many slots are in use, which is how many entries there are.
 fn used<T: Copy>(slots: &[T], height: usize) -> usize
@@ -15,28 +21,19 @@ fn used<T: Copy>(slots: &[T], height: usize) -> usize
     height.min(slots.len())
 }
 
-// The height of a list that fills every slot.
-fn full<T: Copy>(slots: &[T]) -> usize
-    ensures height { result ≡ length slots.now }
-    ensures entries { reverse (stacked result slots.now) ≡ slots.now }
+// Puts `x` on top, if there is room.
+pub fn push<T: Copy>(slots: &mut [T], height: &mut usize, x: T) -> Result<(), Full>
+    ensures value { result ≡ (if nat_lt (length (stacked height.old slots.old)) (length slots.old) then Ok tt else Err (record {})) }
+    ensures entries { stacked height.new slots.new ≡ (if is_ok result then x ∷ stacked height.old slots.old else stacked height.old slots.old) }
+    ensures height { height.new ≡ (if is_ok result then height.old + 1 else height.old) }
+    ensures memory { slots.new ≡ (if is_ok result then slice_set slots.old height.old x else slots.old) }
 {
-    slots.len()
-}
-
-// Puts `x` on top; false where there is no room.
-pub fn push<T: Copy>(slots: &mut [T], height: &mut usize, x: T) -> bool
-    ensures value { result ≡ nat_lt (length (stacked height.old slots.old)) (length slots.old) }
-    ensures entries { stacked height.new slots.new ≡ (if result then x ∷ stacked height.old slots.old else stacked height.old slots.old) }
-    ensures height { height.new ≡ (if result then height.old + 1 else height.old) }
-    ensures memory { slots.new ≡ (if result then slice_set slots.old height.old x else slots.old) }
-{
-    if used(slots, *height) < slots.len() {
-        slots[*height] = x;
-        *height += 1;
-        true
-    } else {
-        false
+    if used(slots, *height) == slots.len() {
+        return Err(Full);
     }
+    slots[*height] = x;
+    *height += 1;
+    Ok(())
 }
 
 // Takes the top entry.
@@ -63,18 +60,18 @@ pub fn peek<T: Copy>(slots: &[T], height: usize, depth: usize) -> Option<T>
     }
 }
 
-// Writes `x` over the entry at `depth` below the top; false where there is none.
-pub fn replace<T: Copy>(slots: &mut [T], height: usize, depth: usize, x: T) -> bool
-    ensures value { result ≡ nat_lt depth (length (stacked height slots.old)) }
+// Writes `x` over the entry at `depth` below the top, and answers what stood there.
+pub fn replace<T: Copy>(slots: &mut [T], height: usize, depth: usize, x: T) -> Option<T>
+    ensures value { result ≡ slice_get (stacked height slots.old) depth }
+    ensures there { is_some result ≡ nat_lt depth (length (stacked height slots.old)) }
     ensures entries { stacked height slots.new ≡ slice_set (stacked height slots.old) depth x }
-    ensures memory { slots.new ≡ (if result then slice_set slots.old (min height (length slots.old) - 1 - depth) x else slots.old) }
+    ensures memory { slots.new ≡ (if is_some result then slice_set slots.old (min height (length slots.old) - 1 - depth) x else slots.old) }
 {
     let used = used(slots, height);
     if depth < used {
-        slots[used - 1 - depth] = x;
-        true
+        Some(mem::replace(&mut slots[used - 1 - depth], x))
     } else {
-        false
+        None
     }
 }
 
@@ -91,18 +88,18 @@ pub fn slot<T: Copy>(slots: &[T], height: usize, index: usize) -> Option<T>
     }
 }
 
-// Writes `x` over the entry in slot `index`, counted from the bottom; false where there is none.
-pub fn replace_slot<T: Copy>(slots: &mut [T], height: usize, index: usize, x: T) -> bool
-    ensures value { result ≡ nat_lt index (length (stacked height slots.old)) }
+// Writes `x` over the entry in slot `index`, counted from the bottom, and answers what stood there.
+pub fn replace_slot<T: Copy>(slots: &mut [T], height: usize, index: usize, x: T) -> Option<T>
+    ensures value { result ≡ slice_get (reverse (stacked height slots.old)) index }
+    ensures there { is_some result ≡ nat_lt index (length (stacked height slots.old)) }
     ensures entries { stacked height slots.new ≡ reverse (slice_set (reverse (stacked height slots.old)) index x) }
-    ensures memory { slots.new ≡ (if result then slice_set slots.old index x else slots.old) }
+    ensures memory { slots.new ≡ (if is_some result then slice_set slots.old index x else slots.old) }
 {
     let used = used(slots, height);
     if index < used {
-        slots[index] = x;
-        true
+        Some(mem::replace(&mut slots[index], x))
     } else {
-        false
+        None
     }
 }
 
@@ -130,5 +127,5 @@ pub fn item<T: Copy>(slots: &[T], index: usize) -> Option<T>
     ensures value { result ≡ slice_get slots.now index }
     ensures there { MatchOption result (length slots.now ≤ index) (λ _. index < length slots.now) }
 {
-    slot(slots, full(slots), index)
+    slots.get(index).copied()
 }

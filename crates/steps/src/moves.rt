@@ -6,7 +6,7 @@ ghost use Rattle.values.specs.Cells.{kind};
 
 use barrier::{normalise_all, read_place, write_place};
 use store::CellStore;
-use values::{Kind, Value, kind_of};
+use values::{Kind, Value};
 
 // Copies a cell to another place, and leaves behind where it went.
 pub fn move_cell<S: CellStore>(s: &mut S, from: u32, to: u32)
@@ -25,7 +25,7 @@ pub fn update_cell<S: CellStore>(s: &mut S, place: u32)
     ensures { S.meaning s.new ≡ (updated (kind (cell_in (S.meaning s.old) place)) place (memory (S.meaning s.old))).cells }
 {
     let mut cell = read_place(s, place);
-    if let Kind::Accessible = kind_of(cell) {
+    if cell.kind() == Kind::Accessible {
         cell.parts = normalise_all(s, cell.parts);
         write_place(s, place, cell);
     }

@@ -14,13 +14,7 @@ pub fn return_place<S: CellStore>(free: &mut Option<FreeList>, s: &mut S, place:
     ensures ends { free.new ≡ Some (longer free.old place) }
     ensures cells { S.meaning s.new ≡ (linked free.old place (put (memory (S.meaning s.old)) place last_free)).cells }
 {
-    let freed = Cell {
-        mark: true,
-        flag: true,
-        waiting: false,
-        parts: [Value::Nil; 2],
-    };
-    write_place(s, place, freed);
+    write_place(s, place, Cell::free(Value::Nil));
     match free {
         None => {
             *free = Some(FreeList {

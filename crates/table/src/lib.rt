@@ -6,18 +6,11 @@ ghost use Rattle.values.specs.Cells.{blank};
 ghost use Rattle.values.specs.Records.{meant_cell, plain_cell};
 
 use store::CellStore;
-use values::{Cell, CellRecord, blank_cell, cell_of, record_of};
+use values::{Cell, CellRecord};
 
 #[derive(Drop)]
 pub struct TableStore<'a> {
     pub cells: &'a mut [CellRecord],
-}
-
-// One cell for each record.
-fn cell_count(cells: &[CellRecord]) -> usize
-    ensures { result ≡ length (map meant_cell cells.now) }
-{
-    cells.len()
 }
 
 // The record at a place, and past the end one that means the blank cell.
@@ -25,11 +18,9 @@ fn record_at(cells: &mut [CellRecord], place: u32) -> CellRecord
     ensures value { meant_cell result ≡ slice_index_or (map meant_cell cells.old) place blank }
     ensures same { cells.new ≡ cells.old }
 {
-    let i = place as usize;
-    if i < cells.len() {
-        cells[i]
-    } else {
-        record_of(blank_cell())
+    match cells.get(place as usize) {
+        Some(kept) => *kept,
+        None => Cell::blank().into(),
     }
 }
 
@@ -48,7 +39,7 @@ impl CellStore for TableStore<'_> {
     ghost meaning = { λ s. map meant_cell s.cells.now };
 
     fn count(&self) -> usize {
-        cell_count(self.cells)
+        self.cells.len()
     }
 
     // Beyond the trait: no record changes. `tied` says that the store holds the same records of its lender.
@@ -58,7 +49,7 @@ impl CellStore for TableStore<'_> {
         ensures exact { self.new.cells.now ≡ self.old.cells.now }
         ensures tied { self.new.cells.ghost_name ≡ self.old.cells.ghost_name }
     {
-        cell_of(record_at(self.cells, place))
+        record_at(self.cells, place).into()
     }
 
     // Beyond the trait: the record at the place is the cell's plain form, and the others stay.
@@ -67,7 +58,6 @@ impl CellStore for TableStore<'_> {
         ensures exact { self.new.cells.now ≡ slice_set self.old.cells.now place (plain_cell cell) }
         ensures tied { self.new.cells.ghost_name ≡ self.old.cells.ghost_name }
     {
-        let kept = record_of(cell);
-        put_record(self.cells, place, kept);
+        put_record(self.cells, place, cell.into());
     }
 }

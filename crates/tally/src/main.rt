@@ -10,7 +10,7 @@ use packed::PackedStore;
 use std::io;
 use std::io::Read;
 use table::TableStore;
-use values::{CellRecord, blank_cell, record_of};
+use values::{Cell, CellRecord};
 
 const LIMIT: u64 = 1_048_576;
 
@@ -18,7 +18,7 @@ fn over_table(rt: &HostRuntime, groups: usize, log: &mut [Event]) -> io::Result<
     let mut cells: Vec<CellRecord> = Vec::new(rt.alloc());
     for _ in 0..groups {
         for _ in 0..8 {
-            cells.push(record_of(blank_cell()))?;
+            cells.push(Cell::blank().into())?;
         }
     }
     let mut store = TableStore {

@@ -1,6 +1,6 @@
 // Values, cells, and what a cell's bits say of its place.
 ghost use Rattle.std.specs.Prelude.{◌≡◌};
-ghost use Rattle.values.specs.Cells.{blank, kind};
+ghost use Rattle.values.specs.Cells.{blank, free_naming, kind};
 
 // What a slot of the heap holds: nothing, a number, or a cell named by its place.
 #[derive(Clone, Copy)]
@@ -20,7 +20,7 @@ pub struct Cell {
 }
 
 // What the mark and the flag together say of a place.
-#[derive(Clone, Copy)]
+#[derive(Clone, Copy, Debug, PartialEq, Eq)]
 pub enum Kind {
     Plain,
     Accessible,
@@ -28,25 +28,39 @@ pub enum Kind {
     Free,
 }
 
-pub fn kind_of(c: Cell) -> Kind
-    ensures { result ≡ kind c }
-{
-    match (c.mark, c.flag) {
-        (false, false) => Kind::Plain,
-        (true, false) => Kind::Accessible,
-        (false, true) => Kind::Moved,
-        (true, true) => Kind::Free,
+impl Cell {
+    // The cell that a place past the end of a store reads as.
+    pub fn blank() -> Cell
+        ensures { result ≡ blank }
+    {
+        Cell {
+            mark: false,
+            flag: false,
+            waiting: false,
+            parts: [Value::Nil; 2],
+        }
     }
-}
 
-// The cell that a place past the end of a store reads as.
-pub fn blank_cell() -> Cell
-    ensures { result ≡ blank }
-{
-    Cell {
-        mark: false,
-        flag: false,
-        waiting: false,
-        parts: [Value::Nil; 2],
+    // The cell of a free place, which names the next free place, or is nil.
+    pub fn free(next: Value) -> Cell
+        ensures { result ≡ free_naming next }
+    {
+        Cell {
+            mark: true,
+            flag: true,
+            waiting: false,
+            parts: [next, Value::Nil],
+        }
+    }
+
+    pub fn kind(self) -> Kind
+        ensures { result ≡ kind self }
+    {
+        match (self.mark, self.flag) {
+            (false, false) => Kind::Plain,
+            (true, false) => Kind::Accessible,
+            (false, true) => Kind::Moved,
+            (true, true) => Kind::Free,
+        }
     }
 }

@@ -5,6 +5,6 @@ mod cells;
 mod numbers;
 mod records;
 
-pub use cells::{Cell, Kind, Value, blank_cell, kind_of};
+pub use cells::{Cell, Kind, Value};
 pub use numbers::{number_of, pattern_of};
-pub use records::{CellRecord, PlainValue, cell_of, plain_of, record_of, value_of};
+pub use records::{CellRecord, PlainValue};

@@ -20,61 +20,52 @@ pub struct CellRecord {
     pub parts: [PlainValue; 2],
 }
 
-pub fn plain_of(v: Value) -> PlainValue
-    ensures value { result ≡ plain_value v }
-    ensures back { meant_value result ≡ v }
-{
-    match v {
-        Value::Nil => PlainValue::Nil,
-        Value::Number(x) => PlainValue::Number(pattern_of(x)),
-        Value::Cell(place) => PlainValue::Cell(place),
+impl From<Value> for PlainValue {
+    ghost from_gives = { λ v r. (r ≡ plain_value v) × (meant_value r ≡ v) };
+
+    fn from(v: Value) -> PlainValue {
+        match v {
+            Value::Nil => PlainValue::Nil,
+            Value::Number(x) => PlainValue::Number(pattern_of(x)),
+            Value::Cell(place) => PlainValue::Cell(place),
+        }
     }
 }
 
-pub fn value_of(v: PlainValue) -> Value
-    ensures { result ≡ meant_value v }
-{
-    match v {
-        PlainValue::Nil => Value::Nil,
-        PlainValue::Number(pattern) => Value::Number(number_of(pattern)),
-        PlainValue::Cell(place) => Value::Cell(place),
+impl From<PlainValue> for Value {
+    ghost from_gives = { λ p r. r ≡ meant_value p };
+
+    fn from(v: PlainValue) -> Value {
+        match v {
+            PlainValue::Nil => Value::Nil,
+            PlainValue::Number(pattern) => Value::Number(number_of(pattern)),
+            PlainValue::Cell(place) => Value::Cell(place),
+        }
     }
 }
 
-fn plain_parts(parts: [Value; 2]) -> [PlainValue; 2]
-    ensures value { result ≡ map plain_value parts }
-    ensures back { map meant_value result ≡ parts }
-{
-    [plain_of(parts[0]), plain_of(parts[1])]
-}
+impl From<Cell> for CellRecord {
+    ghost from_gives = { λ c r. (r ≡ plain_cell c) × (meant_cell r ≡ c) };
 
-fn value_parts(parts: [PlainValue; 2]) -> [Value; 2]
-    ensures { result ≡ map meant_value parts }
-{
-    [value_of(parts[0]), value_of(parts[1])]
-}
-
-pub fn record_of(c: Cell) -> CellRecord
-    ensures value { result ≡ plain_cell c }
-    ensures back { meant_cell result ≡ c }
-{
-    let parts = plain_parts(c.parts);
-    CellRecord {
-        mark: c.mark,
-        flag: c.flag,
-        waiting: c.waiting,
-        parts,
+    fn from(c: Cell) -> CellRecord {
+        CellRecord {
+            mark: c.mark,
+            flag: c.flag,
+            waiting: c.waiting,
+            parts: c.parts.map(PlainValue::from),
+        }
     }
 }
 
-pub fn cell_of(r: CellRecord) -> Cell
-    ensures { result ≡ meant_cell r }
-{
-    let parts = value_parts(r.parts);
-    Cell {
-        mark: r.mark,
-        flag: r.flag,
-        waiting: r.waiting,
-        parts,
+impl From<CellRecord> for Cell {
+    ghost from_gives = { λ r c. c ≡ meant_cell r };
+
+    fn from(r: CellRecord) -> Cell {
+        Cell {
+            mark: r.mark,
+            flag: r.flag,
+            waiting: r.waiting,
+            parts: r.parts.map(Value::from),
+        }
     }
 }
