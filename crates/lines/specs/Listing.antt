@@ -1,10 +1,13 @@
 -- What holds of a tape that was played and listed.
-use Rattle.std.specs.Prelude.{◌≡◌, ℕ, ◌≤◌, List, length, Ok, Err, Result}
+use Rattle.std.specs.Io.KnownBytes.{Appends}
+use Rattle.std.specs.Option.{option_map}
+use Rattle.std.specs.Prelude.{◌≡◌, ℕ, ◌≤◌, List, ◌++◌, length, Ok, Err, Option, Result, codes, decimal}
 use Rattle.player.specs.Faults.{report_of}
 use Rattle.player.specs.Plays.{records_of, Plays, Ends}
 use Rattle.player.specs.declared.outcomes.Played.{Played}
 use Rattle.tape.specs.Whole.{read_whole}
 use Rattle.values.specs.declared.cells.Cell.{Cell}
+use Rattle.lines.specs.Lines.{ended, fault_lines, played_lines, reading_report}
 use Rattle.lines.specs.declared.faults.ProgramFault.{ProgramFault}
 
 -- How the playing of a tape ended, as the program has it: by the player's fault, with its report.
@@ -22,6 +25,16 @@ pub record Listed (t : List ℕ) (before after : List Cell) (n : ℕ) : Type 0 w
   pub records : records_of played ≡ (read_whole t).records
   pub plays : Plays before after played
   pub count : n ≡ length played
+
+-- What is listed of the tape t: a line for each record that was played, one for the fault at which the reading stopped, if it did, and one
+-- with the number of whole records.
+abbrev pub listing : List ℕ → List Played → List ℕ
+listing t played = played_lines played ++ (fault_lines (option_map reading_report (read_whole t).fault) ++ ended (codes "end " ++ decimal (length played)))
+
+-- The same, and what the writer held grew by what is listed of the tape.
+pub record Prints (t : List ℕ) (before after : List Cell) (held holds : Option (List ℕ)) (n : ℕ) : Type 0 where
+  pub listed : Listed t before after n
+  pub text : Appends held holds (listing t listed.played)
 
 -- They were those of some tape: nothing is known of what is read.
 abbrev pub ListedSome : List Cell → List Cell → ℕ → Type 0

@@ -1,5 +1,5 @@
 -- What becomes of a record when it is played on a heap.
-use Rattle.std.specs.Prelude.{ℕ, List, [], ◌∷◌, Some, None, Ok, Err, Option, Result}
+use Rattle.std.specs.Prelude.{List, [], ◌∷◌, Some, None, Ok, Err, Option, Result}
 use Rattle.model.specs.Every.{call}
 use Rattle.model.specs.Heap.{Heap}
 use Rattle.model.specs.declared.answers.Answer.{Answer}

@@ -5,10 +5,9 @@ use Rattle.tape.proofs.Turns.{shorter, onto_last}
 use Rattle.tape.specs.Format.{entry_of}
 use Rattle.tape.specs.Reading.{bad, fault_of}
 use Rattle.tape.specs.Reading as reading
-use Rattle.tape.specs.Whole.{Whole, read_from}
 use Rattle.player.specs.declared.outcomes.Played.{Played}
 use Rattle.player.specs.Plays.{records_of}
-use Rattle.player.proofs.Turns.{onto_played, came_more, came_lawful}
+use Rattle.player.proofs.Turns.{onto_played, came_more}
 use Rattle.player.proofs.plays.play.Goals as goal
 
 pub loop-taken-init : goal.loop-taken-init
