@@ -52,7 +52,6 @@ LIB = "lib.rt"
 OFFER = "offer(top, regs, s, normal);\n"
 
 # why nothing tells some mistakes
-NO_ZEROS = "no stored output has a number or a note's byte that begins with the digit 0, and no contract speaks of the digits"
 SHORT_TAPES = "every stored tape is shorter than the limit, and the contract says only that no more than the limit is read"
 AS_EXPECTED = "every session is answered as expected, so a comparison that lets more pass prints the same"
 
@@ -217,14 +216,14 @@ PLANTS = [
     one("former-records-kept", "player", "plays.rt", "    played.clear();\n", ""),
     # ---- lines, and what the programs print
     one("bad-and-no-exchanged", "lines", "faults.rt", 'Layer::Tape => "bad"', 'Layer::Tape => "no"'),
-    one("line-of-the-next-place", "lines", "granted.rt", "place: played.place,", "place: played.place.saturating_add(1),"),
-    one("kind-before-place", "lines", "granted.rt", '"{place} {kind} ok"', '"{kind} {place} ok"', runs=["play"]),
-    one("text-with-short-bytes", "lines", "granted.rt", "{byte:02x}", "{byte:x}", runs=["replay"], survives=NO_ZEROS),
-    one("pattern-with-few-digits", "lines", "granted.rt", "{pattern:08x}", "{pattern:x}", runs=["replay"], survives=NO_ZEROS),
-    one("returned-turned", "lines", "granted.rt", "u8::from(returned)", "u8::from(!returned)", runs=["replay"]),
-    one("census-not-printed", "lines", "granted.rt", 'Answer::Census(count) => write!(f, " {count}")', "Answer::Census(_) => Ok(())", runs=["play"]),
-    one("fault-line-left-out", "lines", "listing.rt", "        write_fault(out, fault)?;\n    }\n    let count", "        let _ = fault;\n    }\n    let count", runs=["play"]),
-    one("last-line-one-more", "lines", "listing.rt", 'writeln!(out, "end {count}")?;', 'let more = count.saturating_add(1);\n    writeln!(out, "end {more}")?;', runs=["play"]),
+    one("line-of-the-next-place", "lines", "granted.rt", "placed: played.placed,", "placed: Placed { place: played.placed.place.saturating_add(1), ..played.placed },"),
+    one("kind-before-place", "lines", "granted.rt", '"{place} {kind} ok"', '"{kind} {place} ok"'),
+    one("text-with-short-bytes", "tape", "records.rt", "{byte:02x}", "{byte:x}"),
+    one("pattern-with-few-digits", "model", "answers.rt", "{pattern:08x}", "{pattern:x}"),
+    one("returned-turned", "model", "answers.rt", "u8::from(self.returned)", "u8::from(!self.returned)"),
+    one("census-not-printed", "model", "answers.rt", 'Answer::Census(count) => write!(f, "{count}")', "Answer::Census(_) => Ok(())"),
+    one("fault-line-left-out", "lines", "listing.rt", "        write_fault(out, fault)?;\n    }\n    let count", "        let _ = fault;\n    }\n    let count"),
+    one("last-line-one-more", "lines", "listing.rt", 'writeln!(out, "end {count}")?;', 'let more = count.saturating_add(1);\n    writeln!(out, "end {more}")?;'),
     one("table-of-1023-cells", "play", "main.rt", "[BLANK; 1024]", "[BLANK; 1023]"),
     one("half-of-the-table", "play", "main.rt", "TableStore { cells: &mut cells }", "TableStore { cells: &mut cells[..512] }"),
     one("four-groups", "replay", "main.rt", "5 * 83", "4 * 83"),
@@ -235,7 +234,6 @@ PLANTS = [
     # ---- the other programs
     one("dump-name-before-kind", "dump", "main.rt", '"{place} {kind} {record}"', '"{place} {record} {kind}"'),
     one("dump-pattern-with-few-digits", "tape", "records.rt", "{pattern:08x}", "{pattern:x}"),
-    one("dump-text-with-short-bytes", "tape", "records.rt", "{byte:02x}", "{byte:x}"),
     one("dump-begin-without-argument", "tape", "records.rt", "            | Record::Pdlput(n)\n            | Record::Begin(n) =>", "            | Record::Pdlput(n) =>"),
     one("dump-fault-left-out", "dump", "main.rt", "        let line = BadLine(fault);\n        writeln!(out, \"{line}\")?;\n", "        let _ = fault;\n"),
     one("sessions-compare-no-census", "sessions", "compare.rt", "(Answer::Census(x), Answer::Census(y)) => x == y", "(Answer::Census(_), Answer::Census(_)) => true", survives=AS_EXPECTED),
