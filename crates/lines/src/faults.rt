@@ -7,7 +7,7 @@ use std::fmt;
 use tape::Layer;
 
 // The player's fault, whole, and how it is reported; want of memory is not.
-#[derive(Clone, Copy)]
+#[derive(Clone, Copy, Debug, PartialEq, Eq)]
 pub struct ProgramFault<'a> {
     pub report: Option<Report>,
     pub cause: PlayFault<'a>,
@@ -23,7 +23,7 @@ impl<'a> From<PlayFault<'a>> for ProgramFault<'a> {
 }
 
 // The line of a faulty record, or of one whose call was refused.
-#[derive(Clone, Copy)]
+#[derive(Clone, Copy, Debug, PartialEq, Eq)]
 pub struct FaultLine(pub Report);
 
 impl fmt::Display for FaultLine {

@@ -1,7 +1,7 @@
 // Plays a tape and writes a line for each record.
 ghost use Rattle.std.specs.Io.KnownBytes.{Appends};
 ghost use Rattle.std.specs.Prelude.{◌≡◌, true, is_some, IfOk, OnOk};
-ghost use Rattle.lines.specs.Listing.{EndsInProgram, Listed, ListedSome, ListedWithin, PlayedSome, Prints};
+ghost use Rattle.lines.specs.Listing.{EndsInProgram, Listed, ListedOver, ListedSome, ListedWithin, PlayedSome, Prints};
 ghost use Rattle.lines.specs.Lines.{fault_lines, played_lines};
 ghost use Rattle.player.specs.Plays.{Plays};
 
@@ -73,6 +73,7 @@ pub fn list_tape<W: Write, S: CellStore>(
 pub fn run<S: CellStore>(rt: &HostRuntime, s: &mut S) -> io::Result<usize>
     ensures listed { IfOk result (λ n. ListedSome (S.meaning s.old) (S.meaning s.new) n) }
     ensures within { IfOk result (λ n. ListedWithin (S.meaning s.old) (S.meaning s.new) n) }
+    ensures over { IfOk result (λ n. ListedOver (S.meaning s.old) n) }
 {
     let tape = read_tape(rt)?;
     let mut out = BufWriter::new(rt.alloc(), rt.stdout())?;

@@ -7,14 +7,14 @@ use std::alloc::AllocError;
 use tape::{Layer, Placed, TapeFault};
 
 // A call that the heap refused, with the record that asked for it and the record's place.
-#[derive(Clone, Copy)]
+#[derive(Clone, Copy, Debug, PartialEq, Eq)]
 pub struct RefusedCall<'a> {
     pub placed: Placed<'a>,
     pub refusal: Refusal,
 }
 
 // The reader's fault, whole; a refused call; or want of memory for what was played.
-#[derive(Clone, Copy)]
+#[derive(Clone, Copy, Debug, PartialEq, Eq)]
 pub enum PlayFault<'a> {
     Tape(TapeFault<'a>),
     Heap(RefusedCall<'a>),
@@ -22,7 +22,7 @@ pub enum PlayFault<'a> {
 }
 
 // How a fault is reported: its number, the place and the first byte of the record, and the layer that raised it.
-#[derive(Clone, Copy)]
+#[derive(Clone, Copy, Debug, PartialEq, Eq)]
 pub struct Report {
     pub number: u8,
     pub place: usize,
