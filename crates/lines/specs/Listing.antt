@@ -1,7 +1,7 @@
 -- What holds of a tape that was played and listed.
 use Rattle.std.specs.Io.KnownBytes.{Appends}
 use Rattle.std.specs.Option.{option_map}
-use Rattle.std.specs.Prelude.{◌≡◌, ℕ, ◌≤◌, List, ◌++◌, length, Ok, Err, Option, Result, codes, decimal}
+use Rattle.std.specs.Prelude.{◌≡◌, ℕ, ◌≤◌, List, ◌++◌, length, true, is_some, None, Ok, Err, Option, Result, codes, decimal}
 use Rattle.player.specs.Faults.{report_of}
 use Rattle.player.specs.Plays.{records_of, Plays, Ends}
 use Rattle.player.specs.declared.outcomes.Played.{Played}
@@ -14,6 +14,11 @@ use Rattle.lines.specs.declared.faults.ProgramFault.{ProgramFault}
 abbrev pub EndsInProgram : List ℕ → List Played → Result ℕ ProgramFault → Type 0
 EndsInProgram t played (Ok n) = Ends t played (Ok n)
 EndsInProgram t played (Err f) = Ends t played (Err f.cause) × (f.report ≡ report_of f.cause)
+
+-- A fault that is reported is the one at which the reading of the tape stopped; where the playing came to the end, there was none.
+abbrev pub StopsAsRead : List ℕ → Result ℕ ProgramFault → Type 0
+StopsAsRead t (Ok n) = None ≡ option_map reading_report (read_whole t).fault
+StopsAsRead t (Err f) = is_some f.report ≡ true → f.report ≡ option_map reading_report (read_whole t).fault
 
 -- Some records were played on a heap over the cells before, and left the cells after.
 abbrev pub PlayedSome : List Cell → List Cell → Type 0
@@ -33,8 +38,11 @@ listing t played = played_lines played ++ (fault_lines (option_map reading_repor
 
 -- The same, and what the writer held grew by what is listed of the tape.
 pub record Prints (t : List ℕ) (before after : List Cell) (held holds : Option (List ℕ)) (n : ℕ) : Type 0 where
-  pub listed : Listed t before after n
-  pub text : Appends held holds (listing t listed.played)
+  pub played : List Played
+  pub records : records_of played ≡ (read_whole t).records
+  pub plays : Plays before after played
+  pub count : n ≡ length played
+  pub text : Appends held holds (listing t played)
 
 -- They were those of some tape: nothing is known of what is read.
 abbrev pub ListedSome : List Cell → List Cell → ℕ → Type 0

@@ -1,7 +1,7 @@
 // Plays a tape and writes a line for each record.
 ghost use Rattle.std.specs.Io.KnownBytes.{Appends};
 ghost use Rattle.std.specs.Prelude.{◌≡◌, true, is_some, IfOk, OnOk};
-ghost use Rattle.lines.specs.Listing.{EndsInProgram, Listed, ListedOver, ListedSome, ListedWithin, PlayedSome, Prints};
+ghost use Rattle.lines.specs.Listing.{EndsInProgram, Listed, ListedOver, ListedSome, ListedWithin, PlayedSome, Prints, StopsAsRead};
 ghost use Rattle.lines.specs.Lines.{fault_lines, played_lines};
 ghost use Rattle.player.specs.Plays.{Plays};
 
@@ -42,6 +42,7 @@ fn play_tape<'a, S: CellStore>(
     played: &mut Vec<Played<'a>>,
 ) -> Result<usize, ProgramFault<'a>>
     ensures ends { EndsInProgram tape.now played.new.items result }
+    ensures stops { StopsAsRead tape.now result }
     ensures law { Plays (S.meaning s.old) (S.meaning s.new) played.new.items }
 {
     Ok(play(s, tape, played)?)
