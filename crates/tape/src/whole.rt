@@ -23,13 +23,15 @@ pub struct Reading<'a> {
     pub fault: Option<TapeFault<'a>>,
 }
 
-// Reads what is left of a tape, until it ends or a fault stops the reading.
-fn read_from<'a>(heap: Global, from: Rest<'a>) -> Result<Reading<'a>, AllocError>
-    requires { from.place + length from.tape.now < 2 ^ 64 }
-    ensures { IfOk result (λ x. whole_of x ≡ read_from from.entry.tape.now from.entry.place) }
+// Reads a tape whose first byte has this place, until it ends or a fault stops the reading.
+// Not by a `Rest`: that the bytes of a slice in a struct are below 256, which the law needs, is not known.
+fn read_from<'a>(heap: Global, tape: &'a [u8], place: usize) -> Result<Reading<'a>, AllocError>
+    requires { place + length tape.now < 2 ^ 64 }
+    ensures read { IfOk result (λ x. whole_of x ≡ read_from tape.now place) }
+    ensures law { IfOk result (λ x. Law place tape.now (whole_of x)) }
 {
     let mut records = Vec::new(heap);
-    let mut rest = from;
+    let mut rest = Rest { tape, place };
     let fault = 'reading: loop {
         match next(rest) {
             Ok(Some(taken)) => {
@@ -51,5 +53,5 @@ pub fn read_all<'a>(heap: Global, tape: &'a [u8]) -> Result<Reading<'a>, AllocEr
     ensures read { IfOk result (λ x. whole_of x ≡ read_whole tape.now) }
     ensures law { IfOk result (λ x. Law 0 tape.now (whole_of x)) }
 {
-    read_from(heap, Rest::start(tape))
+    read_from(heap, tape, 0)
 }
