@@ -1,43 +1,27 @@
 // Lists the records of the tape on standard input, one to a line.
 #![tactic(auto)]
 
+ghost use Rattle.std.specs.Io.KnownBytes.{Appends};
+ghost use Rattle.std.specs.Prelude.{OnOk, Some};
+ghost use Rattle.dump.specs.Lines.{fault_line, listing, record_line};
+
 use input::read_tape;
 use std::io::{BufWriter, Write};
 use std::{fmt, io};
-use tape::{Placed, Reading, Record, TapeFault, kind_of, name_of, read_all};
+use tape::{Placed, Reading, TapeFault, read_all};
 
 // A record's line: its place, the number and the name of its kind, and its argument.
 #[derive(Clone, Copy)]
 struct Line<'a>(Placed<'a>);
 
 impl fmt::Display for Line<'_> {
+    ghost output = { λ l. Some (record_line l.0) };
+
     fn fmt<W: fmt::Write>(&self, f: &mut fmt::Formatter<W>) -> fmt::Result {
         let Placed { place, record } = self.0;
-        let kind = kind_of(record);
-        let name = name_of(record);
-        write!(f, "{place} {kind} {name}")?;
-        match record {
-            Record::Number(pattern) => write!(f, " {pattern:08x}"),
-            Record::Load(n)
-            | Record::Store(n)
-            | Record::Select(n)
-            | Record::Clobber(n)
-            | Record::Pdlget(n)
-            | Record::Pdlput(n)
-            | Record::Begin(n) => write!(f, " {n}"),
-            Record::Note(text) => write_text(f, text),
-            _ => Ok(()),
-        }
+        let kind = record.kind();
+        write!(f, "{place} {kind} {record}")
     }
-}
-
-// A note's text: two hexadecimal digits for each byte.
-fn write_text<W: fmt::Write>(f: &mut fmt::Formatter<W>, text: &[u8; 12]) -> fmt::Result {
-    write!(f, " ")?;
-    for byte in text {
-        write!(f, "{byte:02x}")?;
-    }
-    Ok(())
 }
 
 // A faulty record's line: its place, its first byte, and the number of the fault.
@@ -45,6 +29,8 @@ fn write_text<W: fmt::Write>(f: &mut fmt::Formatter<W>, text: &[u8; 12]) -> fmt:
 struct BadLine<'a>(TapeFault<'a>);
 
 impl fmt::Display for BadLine<'_> {
+    ghost output = { λ l. Some (fault_line l.0) };
+
     fn fmt<W: fmt::Write>(&self, f: &mut fmt::Formatter<W>) -> fmt::Result {
         let place = self.0.rest.place;
         let kind = self.0.kind();
@@ -53,7 +39,9 @@ impl fmt::Display for BadLine<'_> {
     }
 }
 
-fn list<W: Write>(out: &mut W, reading: &Reading<'_>) -> io::Result<()> {
+fn list<W: Write>(out: &mut W, reading: &Reading<'_>) -> io::Result<()>
+    ensures { OnOk result (Appends (W.contents out.old) (W.contents out.new) (listing reading.now)) }
+{
     for placed in reading.records.iter() {
         let line = Line(*placed);
         writeln!(out, "{line}")?;

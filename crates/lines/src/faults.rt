@@ -1,12 +1,13 @@
 // What stops a program, or stands in the line of a record in place of its answer.
-ghost use Rattle.std.specs.Prelude.{◌≡◌};
-ghost use Rattle.lines.specs.Lines.{in_program, layer_word};
+ghost use Rattle.std.specs.Prelude.{◌≡◌, Some};
+ghost use Rattle.lines.specs.Lines.{in_program, layer_word, report_text};
 
 use player::{PlayFault, Report};
+use std::fmt;
 use tape::Layer;
 
 // The player's fault, whole, and how it is reported; want of memory is not.
-#[derive(Clone, Copy)]
+#[derive(Clone, Copy, Debug, PartialEq, Eq)]
 pub struct ProgramFault<'a> {
     pub report: Option<Report>,
     pub cause: PlayFault<'a>,
@@ -18,6 +19,25 @@ impl<'a> From<PlayFault<'a>> for ProgramFault<'a> {
     fn from(cause: PlayFault<'a>) -> ProgramFault<'a> {
         let report = cause.report();
         ProgramFault { report, cause }
+    }
+}
+
+// The line of a faulty record, or of one whose call was refused.
+#[derive(Clone, Copy, Debug, PartialEq, Eq)]
+pub struct FaultLine(pub Report);
+
+impl fmt::Display for FaultLine {
+    ghost output = { λ l. Some (report_text l.0) };
+
+    fn fmt<W: fmt::Write>(&self, f: &mut fmt::Formatter<W>) -> fmt::Result {
+        let Report {
+            number,
+            place,
+            kind,
+            layer,
+        } = self.0;
+        let word = layer_word(layer);
+        write!(f, "{place} {kind} {word} {number}")
     }
 }
 

@@ -6,5 +6,5 @@ mod granted;
 mod listing;
 
 pub use faults::ProgramFault;
-pub use granted::{Line, line_of};
+pub use granted::Line;
 pub use listing::{list_tape, run};

@@ -18,6 +18,7 @@ const BLANK: CellRecord = CellRecord {
     parts: [PlainValue::Nil, PlainValue::Nil],
 };
 
+// `replay` has the same three lines over its own store: with no heap each array stands in its function, and `run` is what they share.
 fn play_on_table(rt: &HostRuntime) -> io::Result<usize>
     ensures { IfOk result (λ n. ListedOver (replicate 1024 blank) n) }
 {

@@ -23,14 +23,14 @@ use Rattle.player.specs.Plays.{records_of, asked, events_of, Plays}
 
 -- ---- the records
 
-abbrev as_read : Played → Placed
-as_read x = record { place = x.place; «record» = x.«record» }
+abbrev placed_of : Played → Placed
+placed_of x = x.placed
 
 -- One record more was read and played, and put after those before it.
-pub onto_played : (xs ys : List Played) (x : Played) (t u : List ℕ) (q : ℕ) → ys ≡ xs ++ (x ∷ []) → got (entry_of x.«record») u q ≡ read t x.place → onto (records_of ys) (read_from u q) ≡ onto (records_of xs) (read_from t x.place)
+pub onto_played : (xs ys : List Played) (x : Played) (t u : List ℕ) (q : ℕ) → ys ≡ xs ++ (x ∷ []) → got (entry_of x.placed.«record») u q ≡ read t x.placed.place → onto (records_of ys) (read_from u q) ≡ onto (records_of xs) (read_from t x.placed.place)
 onto_played xs ys x t u q put is =
-    rw (← map-map placed as_read ys, ← map-map placed as_read xs)
-    (onto_more (map as_read xs) (map as_read ys) (as_read x) t u q (ap (map as_read) put ∙ map_push as_read xs x) is)
+    rw (← map-map placed placed_of ys, ← map-map placed placed_of xs)
+    (onto_more (map placed_of xs) (map placed_of ys) (placed_of x) t u q (ap (map placed_of) put ∙ map_push placed_of xs x) is)
 
 -- ---- the calls
 

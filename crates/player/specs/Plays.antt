@@ -6,7 +6,7 @@ use Rattle.model.specs.declared.calls.Call.{Call}
 use Rattle.model.specs.declared.calls.Event.{Event}
 use Rattle.tape.specs.Format.{Entry, entry_of}
 use Rattle.tape.specs.Reading.{fault_of}
-use Rattle.tape.specs.Whole.{read_whole}
+use Rattle.tape.specs.Whole.{placed, read_whole}
 use Rattle.values.specs.declared.cells.Cell.{Cell}
 use Rattle.player.specs.declared.faults.PlayFault.{PlayFault}
 use Rattle.player.specs.declared.faults.PlayFault.TheVariants as F
@@ -18,11 +18,11 @@ use Rattle.player.specs.Outcomes.{Suits, logged}
 
 -- The records, each with its place.
 abbrev pub records_of : List Played → List (ℕ × Entry)
-records_of played = map (λ (x : Played). (x.place, entry_of x.«record»)) played
+records_of played = map (λ (x : Played). placed x.placed) played
 
 -- The call that a played record asked for.
 abbrev pub asked : Played → Option Call
-asked x = call_of (entry_of x.«record»)
+asked x = call_of (entry_of x.placed.«record»)
 
 -- The calls with their results, in order; notes are left out.
 abbrev pub events_of : List Played → List Event

@@ -11,22 +11,23 @@ use values::number_of;
 pub fn call_of(record: Record<'_>) -> Option<Call>
     ensures { result ≡ call_of (entry_of «record».entry) }
 {
-    match record {
-        Record::Nil => Some(Call::List(ListCall::Nil)),
-        Record::Number(pattern) => Some(Call::List(ListCall::Number(number_of(pattern)))),
-        Record::Load(root) => Some(Call::List(ListCall::Load(root))),
-        Record::Store(root) => Some(Call::List(ListCall::Store(root))),
-        Record::Create => Some(Call::List(ListCall::Create)),
-        Record::Select(component) => Some(Call::List(ListCall::Select(component))),
-        Record::Clobber(component) => Some(Call::List(ListCall::Clobber(component))),
-        Record::Identical => Some(Call::List(ListCall::Identical)),
-        Record::Look => Some(Call::List(ListCall::Look)),
-        Record::Popitem => Some(Call::List(ListCall::Popitem)),
-        Record::Pdlget(depth) => Some(Call::List(ListCall::Pdlget(depth))),
-        Record::Pdlput(depth) => Some(Call::List(ListCall::Pdlput(depth))),
-        Record::Begin(moving) => Some(Call::Begin(moving)),
-        Record::Step => Some(Call::Step),
-        Record::Census => Some(Call::Census),
-        Record::Note(_) => None,
-    }
+    let call = match record {
+        Record::Nil => ListCall::Nil,
+        Record::Number(pattern) => ListCall::Number(number_of(pattern)),
+        Record::Load(root) => ListCall::Load(root),
+        Record::Store(root) => ListCall::Store(root),
+        Record::Create => ListCall::Create,
+        Record::Select(component) => ListCall::Select(component),
+        Record::Clobber(component) => ListCall::Clobber(component),
+        Record::Identical => ListCall::Identical,
+        Record::Look => ListCall::Look,
+        Record::Popitem => ListCall::Popitem,
+        Record::Pdlget(depth) => ListCall::Pdlget(depth),
+        Record::Pdlput(depth) => ListCall::Pdlput(depth),
+        Record::Begin(moving) => return Some(Call::Begin(moving)),
+        Record::Step => return Some(Call::Step),
+        Record::Census => return Some(Call::Census),
+        Record::Note(_) => return None,
+    };
+    Some(Call::List(call))
 }

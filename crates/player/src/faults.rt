@@ -1,21 +1,20 @@
 // Why a tape was not played to its end, or a record's call not granted.
 ghost use Rattle.std.specs.Prelude.{◌≡◌};
-ghost use Rattle.player.specs.Faults.{of_reader, of_memory, report_of};
+ghost use Rattle.player.specs.Faults.{of_heap, of_reader, of_memory, report_of};
 
 use model::Refusal;
 use std::alloc::AllocError;
-use tape::{Layer, Record, TapeFault, kind_of};
+use tape::{Layer, Placed, TapeFault};
 
 // A call that the heap refused, with the record that asked for it and the record's place.
-#[derive(Clone, Copy)]
+#[derive(Clone, Copy, Debug, PartialEq, Eq)]
 pub struct RefusedCall<'a> {
-    pub place: usize,
-    pub record: Record<'a>,
+    pub placed: Placed<'a>,
     pub refusal: Refusal,
 }
 
 // The reader's fault, whole; a refused call; or want of memory for what was played.
-#[derive(Clone, Copy)]
+#[derive(Clone, Copy, Debug, PartialEq, Eq)]
 pub enum PlayFault<'a> {
     Tape(TapeFault<'a>),
     Heap(RefusedCall<'a>),
@@ -23,7 +22,7 @@ pub enum PlayFault<'a> {
 }
 
 // How a fault is reported: its number, the place and the first byte of the record, and the layer that raised it.
-#[derive(Clone, Copy)]
+#[derive(Clone, Copy, Debug, PartialEq, Eq)]
 pub struct Report {
     pub number: u8,
     pub place: usize,
@@ -45,8 +44,8 @@ impl PlayFault<'_> {
             }),
             PlayFault::Heap(call) => Some(Report {
                 number: call.refusal.number(),
-                place: call.place,
-                kind: kind_of(call.record),
+                place: call.placed.place,
+                kind: call.placed.record.kind(),
                 layer: Layer::Heap,
             }),
             PlayFault::NoMemory => None,
@@ -59,6 +58,14 @@ impl<'a> From<TapeFault<'a>> for PlayFault<'a> {
 
     fn from(fault: TapeFault<'a>) -> PlayFault<'a> {
         Self::Tape(fault)
+    }
+}
+
+impl<'a> From<RefusedCall<'a>> for PlayFault<'a> {
+    ghost from_gives = { λ c r. r ≡ of_heap c };
+
+    fn from(call: RefusedCall<'a>) -> PlayFault<'a> {
+        Self::Heap(call)
     }
 }
 

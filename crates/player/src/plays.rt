@@ -13,7 +13,7 @@ use heap::perform;
 use model::{Registers, Top};
 use scan::{Opened, open};
 use store::CellStore;
-use tape::{Record, Rest, next};
+use tape::{Placed, Record, Rest, next};
 
 // Plays one record.
 fn play_record<S: CellStore>(
@@ -24,15 +24,14 @@ fn play_record<S: CellStore>(
 ) -> Outcome
     ensures { ◌≡◌ {A = Turn} (record { outcome = result; heap = view top.new regs.new (S.meaning s.new) }) (turn_of (call_of (entry_of «record».entry)) (view top.old regs.old (S.meaning s.old))) }
 {
-    match call_of(record) {
-        Some(call) => Outcome::Called(perform(top, regs, s, call)),
-        None => Outcome::Noted,
-    }
+    let call = call_of(record)?;
+    Some(perform(top, regs, s, call))
 }
 
 // Opens a heap over a store, whatever its cells hold, and plays the tape's records in order; a refused call stops nothing.
 // Afterwards `played` has the records that were played, and no others. Room for a record is made before it is played, so that no call is made
 // of which nothing is kept.
+#[tactic(auto, using(std::proofs::lemmas::Grind::common_steps, crate::proofs::Turns::came_lawful))]
 pub fn play<'a, S: CellStore>(
     s: &mut S,
     tape: &'a [u8],
@@ -48,8 +47,10 @@ pub fn play<'a, S: CellStore>(
         played.reserve(1)?;
         let outcome = play_record(&mut top, &mut regs, s, taken.record);
         played.push_reserved(Played {
-            place: rest.place,
-            record: taken.record,
+            placed: Placed {
+                place: rest.place,
+                record: taken.record,
+            },
             outcome,
         });
         rest = taken.rest;

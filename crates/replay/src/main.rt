@@ -12,6 +12,7 @@ use std::io;
 // Five groups of eight cells.
 const BYTES: usize = 5 * 83;
 
+// `play` has the same three lines over its own store: with no heap each array stands in its function, and `run` is what they share.
 fn play_on_bytes(rt: &HostRuntime) -> io::Result<usize>
     ensures { IfOk result (λ n. ListedOver (replicate 40 blank) n) }
 {

@@ -3,3 +3,4 @@ pub mod Faults
 pub mod Reading
 pub mod Whole
 pub mod Law
+pub mod Printed

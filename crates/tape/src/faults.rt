@@ -6,17 +6,17 @@ ghost use Rattle.tape.specs.Format.{first};
 use crate::rest::Rest;
 
 // The layer that raised a fault.
-#[derive(Clone, Copy)]
+#[derive(Clone, Copy, Debug, PartialEq, Eq)]
 pub enum Layer {
     Tape,
     Heap,
 }
 
 // What is wrong with a record: its first byte is the number of no kind, or the tape ends before the record does.
-#[derive(Clone, Copy)]
+#[derive(Clone, Copy, Debug, PartialEq, Eq)]
 pub enum FaultKind {
-    UnknownKind,
-    CutShort,
+    UnknownKind = 8,
+    CutShort = 9,
 }
 
 impl FaultKind {
@@ -24,15 +24,12 @@ impl FaultKind {
     pub fn number(self) -> u8
         ensures { result ≡ fault_number self }
     {
-        match self {
-            FaultKind::UnknownKind => 8,
-            FaultKind::CutShort => 9,
-        }
+        self as u8
     }
 }
 
 // What is wrong, and the unread part of the tape, which begins with the faulty record.
-#[derive(Clone, Copy)]
+#[derive(Clone, Copy, Debug, PartialEq, Eq)]
 pub struct TapeFault<'a> {
     pub what: FaultKind,
     pub rest: Rest<'a>,
@@ -49,9 +46,6 @@ impl TapeFault<'_> {
     pub fn kind(self) -> u8
         ensures { result ≡ first self.entry.rest.tape.now }
     {
-        match self.rest.tape {
-            [] => 0,
-            [kind, ..] => *kind,
-        }
+        self.rest.tape.first().copied().unwrap_or(0)
     }
 }

@@ -9,6 +9,6 @@ mod whole;
 
 pub use faults::{FaultKind, Layer, TapeFault};
 pub use reader::{Taken, next};
-pub use records::{Record, kind_of, name_of};
+pub use records::{Hexadecimal, Record};
 pub use rest::Rest;
 pub use whole::{Placed, Reading, read_all};

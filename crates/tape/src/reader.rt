@@ -7,7 +7,7 @@ use crate::records::Record;
 use crate::rest::Rest;
 
 // A record, and what is left after it.
-#[derive(Clone, Copy)]
+#[derive(Clone, Copy, Debug, PartialEq, Eq)]
 pub struct Taken<'a> {
     pub record: Record<'a>,
     pub rest: Rest<'a>,
@@ -20,38 +20,34 @@ fn big_endian(a: u8, b: u8, c: u8, d: u8) -> u32
     u32::from_be_bytes([a, b, c, d])
 }
 
-// Splits the first record off a tape; `None` where the tape is empty. Each arm returns, so that each is proved by itself.
+// Splits the first record off a tape; `None` where the tape is empty.
+#[tactic(auto, using(crate::proofs::Fronts::front_split, crate::proofs::Fronts::front_note))]
 fn split_record<'a>(tape: &'a [u8]) -> Result<Option<(Record<'a>, &'a [u8])>, FaultKind>
     ensures { split_off result ≡ front tape.now }
 {
     match tape {
-        [] => return Ok(None),
-        [1, left @ ..] => return Ok(Some((Record::Nil, left))),
-        [2, a, b, c, d, left @ ..] => return Ok(Some((
-            Record::Number(big_endian(*a, *b, *c, *d)),
-            left,
-        ))),
-        [3, root, left @ ..] => return Ok(Some((Record::Load(*root), left))),
-        [4, root, left @ ..] => return Ok(Some((Record::Store(*root), left))),
-        [5, left @ ..] => return Ok(Some((Record::Create, left))),
-        [6, part, left @ ..] => return Ok(Some((Record::Select(*part), left))),
-        [7, part, left @ ..] => return Ok(Some((Record::Clobber(*part), left))),
-        [8, left @ ..] => return Ok(Some((Record::Identical, left))),
-        [9, left @ ..] => return Ok(Some((Record::Look, left))),
-        [10, left @ ..] => return Ok(Some((Record::Popitem, left))),
-        [11, depth, left @ ..] => return Ok(Some((Record::Pdlget(*depth), left))),
-        [12, depth, left @ ..] => return Ok(Some((Record::Pdlput(*depth), left))),
-        [13, moves, left @ ..] => return Ok(Some((Record::Begin(*moves), left))),
-        [14, left @ ..] => return Ok(Some((Record::Step, left))),
-        [15, left @ ..] => return Ok(Some((Record::Census, left))),
+        [] => Ok(None),
+        [1, left @ ..] => Ok(Some((Record::Nil, left))),
+        [2, a, b, c, d, left @ ..] => Ok(Some((Record::Number(big_endian(*a, *b, *c, *d)), left))),
+        [3, root, left @ ..] => Ok(Some((Record::Load(*root), left))),
+        [4, root, left @ ..] => Ok(Some((Record::Store(*root), left))),
+        [5, left @ ..] => Ok(Some((Record::Create, left))),
+        [6, part, left @ ..] => Ok(Some((Record::Select(*part), left))),
+        [7, part, left @ ..] => Ok(Some((Record::Clobber(*part), left))),
+        [8, left @ ..] => Ok(Some((Record::Identical, left))),
+        [9, left @ ..] => Ok(Some((Record::Look, left))),
+        [10, left @ ..] => Ok(Some((Record::Popitem, left))),
+        [11, depth, left @ ..] => Ok(Some((Record::Pdlget(*depth), left))),
+        [12, depth, left @ ..] => Ok(Some((Record::Pdlput(*depth), left))),
+        [13, moves, left @ ..] => Ok(Some((Record::Begin(*moves), left))),
+        [14, left @ ..] => Ok(Some((Record::Step, left))),
+        [15, left @ ..] => Ok(Some((Record::Census, left))),
         [16, body @ ..] => {
-            let Some((text, left)) = body.split_first_chunk::<12>() else {
-                return Err(FaultKind::CutShort);
-            };
-            return Ok(Some((Record::Note(text), left)));
+            let (text, left) = body.split_first_chunk::<12>().ok_or(FaultKind::CutShort)?;
+            Ok(Some((Record::Note(text), left)))
         }
-        [1..=15, ..] => return Err(FaultKind::CutShort),
-        _ => return Err(FaultKind::UnknownKind),
+        [1..=15, ..] => Err(FaultKind::CutShort),
+        _ => Err(FaultKind::UnknownKind),
     }
 }
 

@@ -10,7 +10,7 @@ use crate::rest::Rest;
 use std::alloc::{AllocError, Global};
 
 // A record, and the place of its first byte.
-#[derive(Clone, Copy)]
+#[derive(Clone, Copy, Debug, PartialEq, Eq)]
 pub struct Placed<'a> {
     pub place: usize,
     pub record: Record<'a>,
@@ -24,6 +24,7 @@ pub struct Reading<'a> {
 }
 
 // Reads a tape whose first byte has this place, until it ends or a fault stops the reading.
+// Not by a `Rest`: that the bytes of a slice in a struct are below 256, which the law needs, is not known.
 fn read_from<'a>(heap: Global, tape: &'a [u8], place: usize) -> Result<Reading<'a>, AllocError>
     requires { place + length tape.now < 2 ^ 64 }
     ensures read { IfOk result (λ x. whole_of x ≡ read_from tape.now place) }
@@ -31,7 +32,7 @@ fn read_from<'a>(heap: Global, tape: &'a [u8], place: usize) -> Result<Reading<'
 {
     let mut records = Vec::new(heap);
     let mut rest = Rest { tape, place };
-    'reading: loop {
+    let fault = 'reading: loop {
         match next(rest) {
             Ok(Some(taken)) => {
                 records.push(Placed {
@@ -40,16 +41,11 @@ fn read_from<'a>(heap: Global, tape: &'a [u8], place: usize) -> Result<Reading<'
                 })?;
                 rest = taken.rest;
             }
-            Ok(None) => return Ok(Reading {
-                records,
-                fault: None,
-            }),
-            Err(fault) => return Ok(Reading {
-                records,
-                fault: Some(fault),
-            }),
+            Ok(None) => break None,
+            Err(fault) => break Some(fault),
         }
-    }
+    };
+    Ok(Reading { records, fault })
 }
 
 // Reads a tape from its start. The records, written out again and followed by the unread part, are the tape.

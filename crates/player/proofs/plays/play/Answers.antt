@@ -1,14 +1,13 @@
-use Rattle.std.proofs.Common.{◌≡◌, [], ◌∷◌, ◌++◌, Some, None, vec_items, sym, refl, ap, ◌∙◌, rules}
+use Rattle.std.proofs.Common.{◌≡◌, List, [], ◌∷◌, ◌++◌, Some, None, vec_items, sym, refl, ap, ◌∙◌, rules}
 use Rattle.std.proofs.lemmas.Result.{err_from_is_err_and}
 use Rattle.law.specs.Law.{ended}
 use Rattle.tape.proofs.Turns.{shorter, onto_last}
 use Rattle.tape.specs.Format.{entry_of}
 use Rattle.tape.specs.Reading.{bad, fault_of}
 use Rattle.tape.specs.Reading as reading
-use Rattle.tape.specs.Whole.{Whole, read_from}
 use Rattle.player.specs.declared.outcomes.Played.{Played}
 use Rattle.player.specs.Plays.{records_of}
-use Rattle.player.proofs.Turns.{onto_played, came_more, came_lawful}
+use Rattle.player.proofs.Turns.{onto_played, came_more}
 use Rattle.player.proofs.plays.play.Goals as goal
 
 pub loop-taken-init : goal.loop-taken-init
@@ -27,32 +26,22 @@ loop-taken-preserved g c =
     let t = c.in-Some.taken in
     let xs = vec_items c.loop-taken.played in
     let ys = vec_items c.push_reserved.new.self in
-    let x : Played = record { place = r.place; «record» = t.«record»; outcome = c.play_record-outcome.result } in
-    let put : ys ≡ xs ++ (x ∷ []) = c.push_reserved.ensures.items ∙ ap (λ zs. zs ++ (x ∷ [])) c.reserve.ensures.items in (
+    let x : Played = record { placed = record { place = r.place; «record» = t.«record» }; outcome = c.play_record-outcome.result } in
+    let put : ys ≡ xs ++ (x ∷ []) = ◌∙◌ {A = List Played} c.push_reserved.ensures.items (ap (λ zs. zs ++ (x ∷ [])) c.reserve.ensures.items) in (
       onto_played xs ys x r.tape.now t.rest.tape.now t.rest.place put (search rules) ∙ c.loop-taken.invariant.0,
       came_more xs ys x put c.play_record-outcome.ensures c.loop-taken.invariant.1,
     )
 
-pub returns-in_err-taken : goal.returns-in_err-taken
-returns-in_err-taken g c =
+pub returns-in_err-taken-clause-ends : goal.returns-in_err-taken-clause-ends
+returns-in_err-taken-clause-ends g c =
     let p = err_from_is_err_and c.from_residual.result c.from_residual.ensures.1 in
     let r = c.loop-taken.rest in
     let f = fault_of c.in_err-taken.field-0.0 in
     let rs = records_of (vec_items c.loop-taken.played) in
-    let whole = onto_last rs r.tape.now r.place (bad f) (Some f) c.in_err-taken.ensures refl ∙ c.loop-taken.invariant.0 in
-    rw (p.1, p.2) (record { ends = sym whole; law = came_lawful c.open.ensures refl c.loop-taken.invariant.1 })
+    rw (p.1, p.2) (sym (onto_last rs r.tape.now r.place (bad f) (Some f) c.in_err-taken.ensures refl ∙ c.loop-taken.invariant.0))
 
-pub returns-in_err-reserve : goal.returns-in_err-reserve
-returns-in_err-reserve g c =
-    let p = err_from_is_err_and c.from_residual-in_err-reserve.result c.from_residual-in_err-reserve.ensures.1 in
-    let r = c.loop-taken.rest in
-    let left = (read_from r.tape.now r.place).records in
-    rw (p.1, p.2, c.reserve.ensures.items)
-    (record { ends = (left, ap (λ (w : Whole). w.records) c.loop-taken.invariant.0); law = came_lawful c.open.ensures refl c.loop-taken.invariant.1 })
-
-pub returns : goal.returns
-returns g c =
+pub returns-clause-ends : goal.returns-clause-ends
+returns-clause-ends g c =
     let r = c.loop-taken.rest in
     let rs = records_of (vec_items c.loop-taken.played) in
-    let whole = onto_last rs r.tape.now r.place reading.ended None (search rules) refl ∙ c.loop-taken.invariant.0 in
-    record { ends = (sym whole, c.len.ensures ∙ c.loop-taken.played.ok.0); law = came_lawful c.open.ensures refl c.loop-taken.invariant.1 }
+    (sym (onto_last rs r.tape.now r.place reading.ended None (search rules) refl ∙ c.loop-taken.invariant.0), c.len.ensures ∙ c.loop-taken.played.ok.0)
