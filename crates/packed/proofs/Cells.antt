@@ -1,9 +1,9 @@
 -- What is left after a cell is written: the cell there, every other cell, and the spare bytes.
-use Rattle.std.proofs.Common.{◌≡◌, ℕ, ◌*◌, ◌/◌, ◌<◌, Bool, false, ◌≢◌, List, map, length, get_or, drop, set, sym, refl, ap, ◌∙◌, inl, inr, ⊎_elim, arith}
+use Rattle.std.proofs.Common.{◌≡◌, ℕ, ◌*◌, ◌/◌, ◌<◌, ◌≤◌, Bool, false, ◌≢◌, List, map, length, get_or, drop, set, sym, refl, ap, ◌∙◌, inl, inr, ⊎_elim, arith}
 use lib.Seq.{length-sets}
 use Rattle.std.specs.List.{range_with_len}
 use Rattle.std.proofs.lemmas.List.FromFn.{length-map-range_with_len, get_or-map-range_with_len, fill_by_all}
-use Rattle.std.proofs.lemmas.List.{get_or-set_same, get_or-set_other, length-set, drop-set-lt}
+use Rattle.std.proofs.lemmas.List.{get_or-set_same, get_or-set_other, length-set, drop-set-lt, get_or_past, set_past}
 use Rattle.std.proofs.lemmas.Bool.{cases_eq}
 use Rattle.values.specs.Cells.{blank}
 use Rattle.values.specs.declared.cells.Cell.{Cell}
@@ -19,6 +19,13 @@ length_cells bs = length-map-range_with_len (cell_at bs) 0 (cell_count (length b
 
 pub cell_in : (bs : List ℕ) (p : ℕ) → p < cell_count (length bs) → get_or (cells_in bs) p blank ≡ cell_at bs p
 cell_in bs p h = get_or-map-range_with_len (cell_at bs) 0 (cell_count (length bs)) p p blank h (omega arith)
+
+-- A place past the last cell reads blank, and a write there changes no cell.
+pub cell_past : (bs : List ℕ) (p : ℕ) → cell_count (length bs) ≤ p → get_or (cells_in bs) p blank ≡ blank
+cell_past bs p h = let n = length_cells bs in get_or_past (cells_in bs) p _ (omega arith)
+
+pub cells_kept : (bs : List ℕ) (p : ℕ) (c : Cell) → cell_count (length bs) ≤ p → set (cells_in bs) p c ≡ cells_in bs
+cells_kept bs p c h = let n = length_cells bs in set_past (cells_in bs) p c (omega arith)
 
 module _ (bs : List ℕ) (p : ℕ) (c : Cell) where
   abbrev bit_write : ℕ → List ℕ → List ℕ

@@ -30,11 +30,12 @@ pub(crate) fn value_bytes(v: Value) -> [u8; 5]
     }
 }
 
-pub(crate) fn value_in(five: [u8; 5]) -> Value
-    ensures { result ≡ value_in five }
+pub(crate) fn value_in(five: &[u8; 5]) -> Value
+    ensures { result ≡ value_in five.now }
 {
-    let word = u32::from_be_bytes([five[1], five[2], five[3], five[4]]);
-    match five[0] {
+    let [kind, a, b, c, d] = *five;
+    let word = u32::from_be_bytes([a, b, c, d]);
+    match kind {
         NUMBER => Value::Number(number_of(word)),
         CELL => Value::Cell(word),
         _ => Value::Nil,
