@@ -4,6 +4,7 @@ ghost use Rattle.packed.specs.Words.{five_of, value_bytes, value_in, value_of};
 
 use values::{Value, number_of, pattern_of};
 
+// The kinds are bytes of the layout: an enum of them would be `Value` again without its contents, and a byte that is none of them reads as nil.
 const NIL: u8 = 0;
 
 const NUMBER: u8 = 1;
@@ -18,7 +19,8 @@ fn five_of(kind: u8, word: u32) -> [u8; 5]
     [kind, a, b, c, d]
 }
 
-// The five bytes of a value, which read as that value.
+// The five bytes of a value, which read as that value. A function, as `u32::to_be_bytes` is one: for `From`, the bytes would have to be wrapped in a
+// struct at every call, since neither an array nor `Value` is this crate's.
 pub(crate) fn value_bytes(v: Value) -> [u8; 5]
     ensures value { result ≡ value_bytes v }
     ensures back { value_in result ≡ v }
@@ -30,6 +32,7 @@ pub(crate) fn value_bytes(v: Value) -> [u8; 5]
     }
 }
 
+// The value as which five bytes are read.
 pub(crate) fn value_in(five: &[u8; 5]) -> Value
     ensures { result ≡ value_in five.now }
 {
