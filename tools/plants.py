@@ -80,10 +80,10 @@ PLANTS = [
     one("record-mark-from-waiting", "values", "records.rt", "mark: c.mark,", "mark: c.waiting,"),
     one("number-sign-turned", "values", "numbers.rt", "f32_from_bits_with_nan(pattern)", "f32_from_bits_with_nan(pattern ^ 0x8000_0000)"),
     # ---- the table store
-    one("table-forgets-a-write", "table", LIB, "        cells[at] = kept;\n", ""),
-    one("table-writes-the-last", "table", LIB, "cells[at] = kept;", "cells[cells.len() - 1] = kept;"),
-    one("table-last-place-past", "table", LIB, "    if i < cells.len() {\n        cells[i]\n", "    if i + 1 < cells.len() {\n        cells[i]\n"),
-    one("table-one-place-more", "table", LIB, "if at < cells.len() {\n        cells[at] = kept;", "if at <= cells.len() {\n        cells[at] = kept;"),
+    one("table-forgets-a-write", "table", LIB, "            self.cells[at] = record_of(cell);\n", ""),
+    one("table-writes-the-last", "table", LIB, "self.cells[at] = ", "self.cells[self.cells.len() - 1] = "),
+    one("table-last-place-past", "table", LIB, "        self.cells\n            .get(", "        self.cells[..self.cells.len().saturating_sub(1)]\n            .get("),
+    one("table-one-place-more", "table", LIB, "if at < self.cells.len()", "if at <= self.cells.len()"),
     # ---- the packed store
     one("masks-lowest-bit-first", "packed", "bits.rt", "[128, 64, 32, 16, 8, 4, 2, 1]", "[1, 2, 4, 8, 16, 32, 64, 128]"),
     one("bit-never-cleared", "packed", "bits.rt", "        *b &= !mask(place);\n", ""),

@@ -1,7 +1,7 @@
 // The table store: cells in the caller's table of plain records.
 #![tactic(auto)]
 
-ghost use Rattle.std.specs.Prelude.{◌≡◌, map, length, slice_index_or, slice_set};
+ghost use Rattle.std.specs.Prelude.{◌≡◌, map, slice_index_or, slice_set};
 ghost use Rattle.values.specs.Cells.{blank};
 ghost use Rattle.values.specs.Records.{meant_cell, plain_cell};
 
@@ -13,34 +13,14 @@ pub struct TableStore<'a> {
     pub cells: &'a mut [CellRecord],
 }
 
-// One cell for each record.
-fn cell_count(cells: &[CellRecord]) -> usize
-    ensures { result ≡ length (map meant_cell cells.now) }
-{
-    cells.len()
-}
-
-// The record at a place, and past the end one that means the blank cell.
-fn record_at(cells: &mut [CellRecord], place: u32) -> CellRecord
-    ensures value { meant_cell result ≡ slice_index_or (map meant_cell cells.old) place blank }
-    ensures same { cells.new ≡ cells.old }
-{
-    let i = place as usize;
-    if i < cells.len() {
-        cells[i]
-    } else {
-        record_of(blank_cell())
-    }
-}
-
-// Replaces the record at a place, and with it the cell there; past the end nothing is written.
-fn put_record(cells: &mut [CellRecord], place: u32, kept: CellRecord)
-    ensures exact { cells.new ≡ slice_set cells.old place kept }
-    ensures meant { map meant_cell cells.new ≡ slice_set (map meant_cell cells.old) place (meant_cell kept) }
-{
-    let at = place as usize;
-    if at < cells.len() {
-        cells[at] = kept;
+impl TableStore<'_> {
+    // Reads without a change, so that it needs no store lent for writing. A place past the end is blank.
+    fn cell(&self, place: u32) -> Cell
+        ensures { result ≡ slice_index_or (map meant_cell self.now.cells.now) place blank }
+    {
+        self.cells
+            .get(place as usize)
+            .map_or(blank_cell(), |kept| cell_of(*kept))
     }
 }
 
@@ -48,7 +28,7 @@ impl CellStore for TableStore<'_> {
     ghost meaning = { λ s. map meant_cell s.cells.now };
 
     fn count(&self) -> usize {
-        cell_count(self.cells)
+        self.cells.len()
     }
 
     // Beyond the trait: no record changes. `tied` says that the store holds the same records of its lender.
@@ -58,16 +38,20 @@ impl CellStore for TableStore<'_> {
         ensures exact { self.new.cells.now ≡ self.old.cells.now }
         ensures tied { self.new.cells.ghost_name ≡ self.old.cells.ghost_name }
     {
-        cell_of(record_at(self.cells, place))
+        self.cell(place)
     }
 
     // Beyond the trait: the record at the place is the cell's plain form, and the others stay.
+    #[tactic(auto, using(crate::proofs::Written::cells_written))]
     fn write(&mut self, place: u32, cell: Cell)
         ensures cells { map meant_cell self.new.cells.now ≡ slice_set (map meant_cell self.old.cells.now) place cell }
         ensures exact { self.new.cells.now ≡ slice_set self.old.cells.now place (plain_cell cell) }
         ensures tied { self.new.cells.ghost_name ≡ self.old.cells.ghost_name }
     {
-        let kept = record_of(cell);
-        put_record(self.cells, place, kept);
+        // Not by `get_mut`: of a slice that it lent from, a proof knows no element afterwards.
+        let at = place as usize;
+        if at < self.cells.len() {
+            self.cells[at] = record_of(cell);
+        }
     }
 }
