@@ -119,7 +119,7 @@ PLANTS = [
     one("at-rest-as-6", "model", "answers.rt", "Refusal::AtRest => 7", "Refusal::AtRest => 6"),
     one("mark-printed-as-rest", "model", "answers.rt", 'PhaseName::Mark => "mark"', 'PhaseName::Mark => "rest"'),
     # ---- places, normalise and offer
-    one("place-4096-written", "barrier", "access.rt", "place < MOST_PLACES", "place <= MOST_PLACES"),
+    one("place-4096-written", "barrier", "access.rt", "if place < MOST_PLACES {\n        s.write", "if place <= MOST_PLACES {\n        s.write"),
     one("4095-places", "barrier", "access.rt", "const MOST_PLACES: u32 = 4096;", "const MOST_PLACES: u32 = 4095;"),
     one("offers-in-relocate", "barrier", "offers.rt", "let Phase::Mark { .. } = regs.phase", "let Phase::Relocate { .. } = regs.phase"),
     one("offer-tests-the-mark", "barrier", "offers.rt", "if cell.waiting {", "if cell.mark {"),
