@@ -11,12 +11,14 @@ fn mask(place: u32) -> u8
     MASKS[place as usize % 8]
 }
 
+// Whether a byte has a place's bit.
 pub(crate) fn bit_of(b: u8, place: u32) -> bool
     ensures { result ≡ bit_of b (place % 8) }
 {
     b & mask(place) != 0
 }
 
+// Sets or clears a place's bit in a byte.
 pub(crate) fn set_bit(b: &mut u8, place: u32, on: bool)
     ensures { b.new ≡ with_bit b.old (place % 8) on }
 {
