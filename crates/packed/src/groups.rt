@@ -8,7 +8,7 @@ ghost use Rattle.packed.specs.Words.{value_bytes, value_in};
 ghost use Rattle.packed.specs.Groups.{bit_place, bytes_with, cell_at, cell_count, cells_in, part_place, row_number, spare, width};
 
 use crate::bits::{bit_of, set_bit};
-use crate::words::{value_bytes, value_in};
+use crate::words::ValueBytes;
 use values::{Cell, Value};
 
 // The components of a cell, the bytes of a cell, and the bytes of a group.
@@ -53,7 +53,7 @@ fn value_at(bytes: &[u8], at: usize) -> Value
     requires { at + 5 ≤ length bytes.now }
     ensures { result ≡ value_in (take 5 (drop at bytes.now)) }
 {
-    value_in(bytes[at..].first_chunk().unwrap())
+    Value::from(ValueBytes(*bytes[at..].first_chunk().unwrap()))
 }
 
 // The cell at a place that has one. Its components are listed, since `array::from_fn` made steps over the store 4% dearer in instructions.
@@ -77,7 +77,7 @@ fn put_value(bytes: &mut [u8], at: usize, v: Value)
     ensures after { bytes.new ≡ sets bytes.old at (value_bytes v) }
     ensures back { value_in (value_bytes v) ≡ v }
 {
-    bytes[at..at + 5].copy_from_slice(&value_bytes(v));
+    bytes[at..at + 5].copy_from_slice(&ValueBytes::from(v).0);
 }
 
 // Writes a cell at a place that has one. Each component reads as it was written.

@@ -8,5 +8,5 @@ pub returns-clause-after : goal.returns-clause-after
 returns-clause-after c =
     let bs = c.args.bytes.now in
     let five = value_bytes c.args.v in
-    put_mid-paste _ _ bs _ five 5 (c.copy_from_slice.ensures.after ∙ c.value_bytes.ensures.value) (omega arith) refl
+    put_mid-paste _ _ bs _ five 5 (c.copy_from_slice.ensures.after ∙ c.from.ensures.0) (omega arith) refl
     ∙ sym (sets-eq five bs c.args.at (omega arith))
