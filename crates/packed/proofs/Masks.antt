@@ -1,41 +1,33 @@
 -- A bit that is set or cleared is read back, and the others stay.
-use Rattle.std.proofs.Common.{◌≡◌, ℕ, zero, suc, ◌-◌, ◌%◌, ◌<◌, Bool, true, false, cond, not, ◌&&◌, eqb, sym, refl, ap, ◌∙◌, mod-eq_of_lt, arith}
-use mathlib.Core.Bool.{beq}
+use Rattle.std.proofs.Common.{◌≡◌, ℕ, ◌-◌, ◌%◌, ◌<◌, Bool, true, false, cond, not, eqb, sym, refl, ap, ◌∙◌, mod-eq_of_lt, arith}
 use lib.Bits.{bit_and, bit_or, and_mod, or_mod, and_le_r}
-use Rattle.std.proofs.lemmas.Bool.{eqb-true}
-use Rattle.std.proofs.lemmas.Bool.Decides.{Decides-below_and}
+use Rattle.std.proofs.lemmas.Bool.{eqb-true, agree_below, agree_below_at}
 use Rattle.packed.specs.Bits.{mask, bit_of, with_bit}
 
 -- ---- For bytes it is one test, computed at each byte, place and bit.
 
-abbrev below : (ℕ → Bool) → ℕ → Bool
-below f zero = true
-below f (suc n) = f n && below f n
+abbrev all : ℕ → (ℕ → Bool) → Bool
+all n f = agree_below f (λ _. true) n
 
-holds : (f : ℕ → Bool) (n : ℕ) → below f n ≡ true → (k : ℕ) → k < n → f k ≡ true
-holds f n e = (Decides-below_and f (λ k. f k ≡ true) (below f) (λ k. (λ t. t, λ t. t)) refl (λ _. refl) n).0 e
+all_at : (n : ℕ) (f : ℕ → Bool) (k : ℕ) → all n f ≡ true → k < n → f k ≡ true
+all_at n f k = agree_below_at f (λ _. true) n k
 
-same : (a b : Bool) → beq a b ≡ true → a ≡ b
-same true true e = refl
-same true false e = cc
-same false true e = cc
-same false false e = refl
+abbrev read_back : Bool → ℕ → ℕ → Bool
+read_back on b r = agree_below (bit_of (with_bit b r on)) (λ q. cond (eqb q r) on (bit_of b q)) 8
 
-abbrev right : Bool → ℕ → ℕ → ℕ → Bool
-right on b r q = beq (bit_of (with_bit b r on) q) (cond (eqb q r) on (bit_of b q))
-
-all_right : (on : Bool) → below (λ b. below (λ r. below (right on b r) 8) 8) 256 ≡ true
-all_right true = refl
-all_right false = refl
+all_read_back : (on : Bool) → all 256 (λ b. all 8 (read_back on b)) ≡ true
+all_read_back true = refl
+all_read_back false = refl
 
 byte_bits : (b r q : ℕ) (on : Bool) → b < 256 → r < 8 → q < 8 → bit_of (with_bit b r on) q ≡ cond (eqb q r) on (bit_of b q)
 byte_bits b r q on hb hr hq =
-    same _ _ (holds (right on b r) 8 (holds (λ r. below (right on b r) 8) 8 (holds (λ b. below (λ r. below (right on b r) 8) 8) 256 (all_right on) b hb) r hr) q hq)
+    agree_below_at (bit_of (with_bit b r on)) (λ q. cond (eqb q r) on (bit_of b q)) 8 q
+    (all_at 8 (read_back on b) r (all_at 256 (λ b. all 8 (read_back on b)) b (all_read_back on) hb) hr) hq
 
 -- ---- Of a larger number the masks see the lowest byte.
 
 low_mask : (r : ℕ) → r < 8 → mask r % 256 ≡ mask r
-low_mask r h = eqb-true _ _ (holds (λ r. eqb (mask r % 256) (mask r)) 8 refl r h)
+low_mask r h = eqb-true _ _ (all_at 8 (λ r. eqb (mask r % 256) (mask r)) r refl h)
 
 low_bit : (b q : ℕ) → q < 8 → bit_of b q ≡ bit_of (b % 256) q
 low_bit b q h =

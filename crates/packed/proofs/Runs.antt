@@ -1,6 +1,6 @@
 -- Writes one after another: what they leave, and what is read back.
-use Rattle.std.proofs.Common.{◌≡◌, ℕ, zero, suc, ◌+◌, ◌<◌, ◌≤◌, ◌≢◌, ◌⊎◌, List, [], ◌∷◌, ◌++◌, length, take, drop, set, sym, refl, ap, ◌∙◌, inl, inr, ⊎_elim, arith}
-use lib.Seq.{sets, sets-eq}
+use Rattle.std.proofs.Common.{◌≡◌, ℕ, zero, suc, ◌+◌, ◌-◌, ◌<◌, ◌≤◌, ◌≢◌, ◌⊎◌, List, [], ◌∷◌, ◌++◌, length, take, drop, set, sym, refl, ap, ◌∙◌, inl, inr, ⊎_elim, arith}
+use Rattle.std.proofs.lemmas.List.Edits.{sets, sets-eq}
 use Rattle.std.proofs.lemmas.List.{append_assoc, take_at, drop_at, drop-take, length-take-le, take-set-le, drop-set-lt}
 use Rattle.std.proofs.lemmas.Bool.{cases_eq}
 use Rattle.packed.specs.Groups.{each}
@@ -44,3 +44,7 @@ module _ {X : Type 0} (f : ℕ → List ℕ → X) (want : ℕ → X) (write : �
       ∙ ap (λ k. f k (write i bs)) e ∙ there bs i (omega arith) l ∙ ap want (sym e))
       (λ (e : j ≢ i). each_read n (i + 1) (write i bs) j (stays bs i ∙ l) (omega arith) (omega arith) (omega arith))
       (cases_eq j i)
+
+-- The writes from index i on are that at i and those after it.
+pub each_step : (write : ℕ → List ℕ → List ℕ) (n i : ℕ) (bs : List ℕ) → i < n → each write (n - (i + 1)) (i + 1) (write i bs) ≡ each write (n - i) i bs
+each_step write n i bs h = let e : suc (n - (i + 1)) ≡ n - i = omega arith in ap (λ k. each write k i bs) e

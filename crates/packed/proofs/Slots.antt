@@ -1,7 +1,7 @@
 -- What is read after one bit or one component is written: that one as it was written, any other as it was.
-use Rattle.std.proofs.Common.{◌≡◌, ℕ, ◌+◌, ◌/◌, ◌%◌, ◌<◌, ◌≤◌, Bool, ◌≢◌, ◌⊎◌, List, length, get_or, set, sym, refl, ap, ◌∙◌, inl, inr, ⊎_elim, arith}
+use Rattle.std.proofs.Common.{◌≡◌, ℕ, ◌+◌, ◌%◌, ◌<◌, ◌≤◌, Bool, ◌≢◌, ◌⊎◌, List, length, get_or, set, sym, refl, ap, ◌∙◌, ⊎_elim, arith}
 use Rattle.std.proofs.lemmas.List.{get_or-set_same, get_or-set_other, set_past}
-use Rattle.std.proofs.lemmas.Bool.{cases_order, cases_eq, cases_lt, eq-eqb, ne_eqb, cond-true, cond-false}
+use Rattle.std.proofs.lemmas.Bool.{cases_eq, cases_lt, eq-eqb, ne_eqb, cond-true, cond-false}
 use Rattle.values.specs.declared.cells.Value.{Value}
 use Rattle.packed.specs.Bits.{bit_of, with_bit}
 use Rattle.packed.specs.Words.{value_bytes, value_in}
@@ -27,22 +27,17 @@ pub bit_apart : (ys : List ℕ) (p row q r : ℕ) (on : Bool) → row < 3 → r 
 bit_apart ys p row q r on h k o =
     ⊎_elim
     (λ (e : bit_place q r ≡ bit_place p row).
-    let n : q % 8 ≢ p % 8 = λ t. ⊎_elim (λ m. m (omega arith)) (λ m. m (omega arith)) o in
+    let n : q % 8 ≢ p % 8 = grind arith in
     ap (λ x. bit_of (get_or (with_bit_at ys p row on) x 0) (q % 8)) e
     ∙ byte_apart ys (bit_place p row) (p % 8) (q % 8) on (omega arith) (omega arith) n
     ∙ sym (ap (λ x. bit_of (get_or ys x 0) (q % 8)) e))
     (λ e. ap (λ b. bit_of b (q % 8)) (get_or-set_other ys (bit_place p row) (bit_place q r) _ 0 e))
     (cases_eq (bit_place q r) (bit_place p row))
 
--- A byte of bits lies outside every component.
-outside : (p i q r : ℕ) → i < width → r < 3 → (bit_place q r < part_place p i) ⊎ (part_place p i + 5 ≤ bit_place q r)
-outside p i q r h k =
-    ⊎_elim (λ (l : p / 8 < q / 8). inr (omega arith)) (λ (l : q / 8 ≤ p / 8). inl (omega arith)) (cases_lt (p / 8) (q / 8))
-
 pub bit_past_part : (ys : List ℕ) (p i q r : ℕ) (v : Value) → i < width → r < 3 → bit_at (with_part_at ys p i v) q r ≡ bit_at ys q r
 bit_past_part ys p i q r v h k =
     sets_keep (λ l. bit_at l q r) (value_bytes v) ys (part_place p i) (λ zs t w a b.
-    ap (λ x. bit_of x (q % 8)) (get_or-set_other zs t (bit_place q r) w 0 (λ e. ⊎_elim (λ o. omega arith) (λ o. omega arith) (outside p i q r h k))))
+    ap (λ x. bit_of x (q % 8)) (get_or-set_other zs t (bit_place q r) w 0 (grind arith)))
 
 -- ---- One component
 
@@ -53,19 +48,10 @@ part_there ys p i v h k e = ap value_in (sets_there (value_bytes v) ys (part_pla
 abbrev Apart : ℕ → ℕ → Type 0
 Apart a b = (a + 5 ≤ b) ⊎ (b + 5 ≤ a)
 
-pub cells_apart : (p i q j : ℕ) → i < width → j < width → q ≢ p → Apart (part_place p i) (part_place q j)
-cells_apart p i q j h k n =
-    ⊎_elim (λ e. absurd (n e)) (⊎_elim
-    (λ (l : q < p). let g : q / 8 ≤ p / 8 = omega arith in inr (omega arith))
-    (λ (l : p < q). let g : p / 8 ≤ q / 8 = omega arith in inl (omega arith))) (cases_order q p)
-
-pub parts_apart : (p i j : ℕ) → j ≢ i → Apart (part_place p i) (part_place p j)
-parts_apart p i j n = ⊎_elim (λ e. absurd (n e)) (⊎_elim (λ (l : j < i). inr (omega arith)) (λ (l : i < j). inl (omega arith))) (cases_order j i)
-
 pub part_apart : (ys : List ℕ) (p i q j : ℕ) (v : Value) → Apart (part_place p i) (part_place q j) → part_at (with_part_at ys p i v) q j ≡ part_at ys q j
 part_apart ys p i q j v d =
     sets_keep (λ l. part_at l q j) (value_bytes v) ys (part_place p i) (λ zs k w a b.
-    ap value_in (window_set zs k w (part_place q j) 5 (⊎_elim (λ t. inl (omega arith)) (λ t. inr (omega arith)) d)))
+    ap value_in (window_set zs k w (part_place q j) 5 (grind arith)))
 
 pub part_past_bit : (ys : List ℕ) (p row q j : ℕ) (on : Bool) → row < 3 → j < width → part_at (with_bit_at ys p row on) q j ≡ part_at ys q j
-part_past_bit ys p row q j on h k = ap value_in (window_set ys (bit_place p row) _ (part_place q j) 5 (outside q j p row k h))
+part_past_bit ys p row q j on h k = ap value_in (window_set ys (bit_place p row) _ (part_place q j) 5 (grind arith))

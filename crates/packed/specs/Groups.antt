@@ -5,6 +5,8 @@ use Rattle.std.specs.List.{range_with_len}
 use Rattle.values.specs.declared.cells.Cell.{Cell}
 use Rattle.values.specs.declared.cells.Value.{Value}
 use Rattle.values.specs.declared.cells.Value.TheVariants as V
+use Rattle.packed.specs.declared.groups.Row.{Row}
+use Rattle.packed.specs.declared.groups.Row.TheVariants as R
 use Rattle.packed.specs.Bits.{bit_of, with_bit}
 use Rattle.packed.specs.Words.{value_bytes, value_in}
 
@@ -25,6 +27,12 @@ group_size = 3 + 8 * cell_size
 -- The number of cells in so many bytes: eight for each whole group.
 abbrev pub cell_count : ℕ → ℕ
 cell_count len = 8 * (len / group_size)
+
+-- The rows of bits by number.
+abbrev pub row_number : Row → ℕ
+row_number R.Marks = 0
+row_number R.Flags = 1
+row_number R.Waiting = 2
 
 -- The byte that has a place's bit: row 0 has the marks, 1 the flags, 2 the waiting bits.
 abbrev pub bit_place : ℕ → ℕ → ℕ

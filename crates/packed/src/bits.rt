@@ -1,20 +1,30 @@
 // The bits of a byte, one for each of eight places.
-ghost use Rattle.std.specs.Prelude.{◌≡◌, ◌<◌};
-ghost use Rattle.packed.specs.Bits.{bit_of, with_bit};
+ghost use Rattle.std.specs.Prelude.{◌≡◌, ◌%◌};
+ghost use Rattle.packed.specs.Bits.{bit_of, mask, with_bit};
 
 // The mask of a place, by its remainder by 8.
 const MASKS: [u8; 8] = [128, 64, 32, 16, 8, 4, 2, 1];
 
-pub(crate) fn bit_of(b: u8, r: usize) -> bool
-    requires { r < 8 }
-    ensures { result ≡ bit_of b r }
+fn mask(place: u32) -> u8
+    ensures { result ≡ mask (place % 8) }
 {
-    (b & MASKS[r]) != 0
+    MASKS[place as usize % 8]
 }
 
-pub(crate) fn with_bit(b: u8, r: usize, on: bool) -> u8
-    requires { r < 8 }
-    ensures { result ≡ with_bit b r on }
+// Whether a byte has a place's bit.
+pub(crate) fn bit_of(b: u8, place: u32) -> bool
+    ensures { result ≡ bit_of b (place % 8) }
 {
-    if on { b | MASKS[r] } else { b & !MASKS[r] }
+    b & mask(place) != 0
+}
+
+// Sets or clears a place's bit in a byte.
+pub(crate) fn set_bit(b: &mut u8, place: u32, on: bool)
+    ensures { b.new ≡ with_bit b.old (place % 8) on }
+{
+    if on {
+        *b |= mask(place);
+    } else {
+        *b &= !mask(place);
+    }
 }

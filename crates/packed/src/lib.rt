@@ -19,9 +19,23 @@ pub struct PackedStore<'a> {
     pub bytes: &'a mut [u8],
 }
 
+impl PackedStore<'_> {
+    // Reads without a change, so that it needs no store lent for writing.
+    #[tactic(auto, using(crate::proofs::Cells::cell_in, crate::proofs::Cells::cell_past))]
+    fn cell(&self, place: u32) -> Cell
+        ensures { result ≡ slice_index_or (cells_in self.now.bytes.now) place blank }
+    {
+        if place as usize >= cell_count(self.bytes.len()) {
+            return Cell::blank();
+        }
+        read_cell(self.bytes, place)
+    }
+}
+
 impl CellStore for PackedStore<'_> {
     ghost meaning = { λ s. cells_in s.bytes.now };
 
+    #[tactic(auto, using(crate::proofs::Cells::length_cells))]
     fn count(&self) -> usize {
         cell_count(self.bytes.len())
     }
@@ -33,13 +47,11 @@ impl CellStore for PackedStore<'_> {
         ensures exact { self.new.bytes.now ≡ self.old.bytes.now }
         ensures tied { self.new.bytes.ghost_name ≡ self.old.bytes.ghost_name }
     {
-        if place as usize >= cell_count(self.bytes.len()) {
-            return Cell::blank();
-        }
-        read_cell(self.bytes, place)
+        self.cell(place)
     }
 
     // Beyond the trait: every byte is fixed, and those after the last whole group stay.
+    #[tactic(auto, using(crate::proofs::Cells::cells_kept, crate::proofs::Cells::cells_with, crate::proofs::Cells::spare_with))]
     fn write(&mut self, place: u32, cell: Cell)
         ensures cells { cells_in self.new.bytes.now ≡ slice_set (cells_in self.old.bytes.now) place cell }
         ensures exact { self.new.bytes.now ≡ written self.old.bytes.now place cell }

@@ -1,17 +1,15 @@
-use Rattle.std.proofs.Common.{◌≡◌, ℕ, ◌<◌, length, get_or, ap, ◌∙◌, rules, below_none, below_more}
+use Rattle.std.proofs.Common.{rules, ◌≡◌, ℕ, ◌+◌, ◌-◌, List, get_or, ap, ◌∙◌, below_more}
 use Rattle.values.specs.declared.cells.Value.TheVariants as V
-use Rattle.packed.specs.Groups.{bytes_with, cells_in, spare, width}
 use Rattle.packed.specs.Words.{value_bytes, value_in}
-use Rattle.packed.proofs.Cells.{cells_with, spare_with}
+use Rattle.packed.specs.Groups.{each, width, with_part_at}
+use Rattle.packed.proofs.Runs.{each_step}
 use Rattle.packed.proofs.groups.write_cell.Goals as goal
 
-pub returns : goal.returns
-returns c =
-    let bs = c.args.bytes.now in
-    let p = c.args.place in
-    let cell = c.args.cell in
-    let e : c.write_part-2.new.bytes ≡ bytes_with bs p cell = search rules in
-    let full : length cell.parts ≡ width = search rules in
-    let Back : ℕ → Type 0 = λ i. value_in (value_bytes (get_or cell.parts i V.Nil)) ≡ get_or cell.parts i V.Nil in
-    let back : (i : ℕ) → i < width → Back i = below_more Back 1 (below_more Back 0 (below_none Back) c.write_part.ensures.back) c.write_part-2.ensures.back in
-    record { exact = e; cells = ap cells_in e ∙ cells_with bs p cell c.requires full back; rest = ap spare e ∙ spare_with bs p cell c.requires }
+pub loop-i-preserved : goal.loop-i-preserved
+loop-i-preserved c =
+    let i = c.loop-i.i in
+    let v = get_or c.args.cell.parts i V.Nil in
+    let write : ℕ → List ℕ → List ℕ = λ k ys. with_part_at ys c.args.place k (get_or c.args.cell.parts k V.Nil) in
+    let written : c.put_value.new.bytes ≡ write i c.loop-i.bytes = search rules in
+    let back : value_in (value_bytes v) ≡ v = search rules in
+    (ap (each write (width - (i + 1)) (i + 1)) written ∙ each_step write width i c.loop-i.bytes c.loop-i-test.true ∙ c.loop-i.invariant.0, below_more _ i c.loop-i.invariant.1 back)
