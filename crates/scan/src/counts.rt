@@ -13,10 +13,7 @@ fn in_use(kind: Kind) -> usize
     ensures value { result ≡ in_use kind }
     ensures bound { result ≤ 1 }
 {
-    match kind {
-        Kind::Plain | Kind::Accessible | Kind::Moved => 1,
-        Kind::Free => 0,
-    }
+    usize::from(kind != Kind::Free)
 }
 
 // What a place adds to the count of those after it.
