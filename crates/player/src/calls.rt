@@ -7,7 +7,7 @@ use model::{Call, ListCall};
 use tape::Record;
 use values::number_of;
 
-// The call of a record; a note asks for none.
+// The call of a record; a note asks for none. A function, since neither type is this crate's, and a note is no error.
 pub fn call_of(record: Record<'_>) -> Option<Call>
     ensures { result ≡ call_of (entry_of «record».entry) }
 {

@@ -21,7 +21,8 @@ pub enum PlayFault<'a> {
     NoMemory,
 }
 
-// How a fault is reported: its number, the place and the first byte of the record, and the layer that raised it.
+// How a fault is reported: its number, the place and the first byte of the record, and the layer that raised it. Numbers, since they are what is
+// printed, and the first byte of a faulty record may be the number of no kind; the fault itself is kept beside it.
 #[derive(Clone, Copy, Debug, PartialEq, Eq)]
 pub struct Report {
     pub number: u8,

@@ -1,4 +1,5 @@
 // The player: makes the calls of a tape of a heap, and keeps what became of each record.
+// The list's height, the other registers and the store are taken apart, as a rule of the project has it: the height is to be lent alone.
 #![tactic(auto)]
 
 mod calls;

@@ -5,7 +5,8 @@ ghost use Rattle.tape.specs.Printed.{hexadecimal, printed};
 
 use std::fmt;
 
-// A call, with its argument; or a note, whose text is a part of the tape.
+// A call, with its argument; or a note, whose text is a part of the tape. Arguments are the bytes that stand there: whether one is in range is for
+// the heap to say.
 #[derive(Clone, Copy, Debug, PartialEq, Eq)]
 pub enum Record<'a> {
     Nil,
@@ -27,7 +28,7 @@ pub enum Record<'a> {
 }
 
 impl Record<'_> {
-    // The number of a record's kind.
+    // The number of a record's kind. By a match, since a case that has an argument has no number to be cast to.
     pub fn kind(self) -> u8
         ensures { result ≡ (kind (entry_of self.entry)).number }
     {
