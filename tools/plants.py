@@ -23,7 +23,7 @@ PASSING_CRATE = {
 #![tactic(auto)]
 
 use store::CellStore;
-use values::{Cell, blank_cell};
+use values::Cell;
 
 #[derive(Drop)]
 pub struct Passing<S> {
@@ -53,7 +53,15 @@ OFFER = "offer(top, regs, s, normal);\n"
 
 # why nothing tells some mistakes
 SHORT_TAPES = "every stored tape is shorter than the limit, and the contract says only that no more than the limit is read"
-AS_EXPECTED = "every session is answered as expected, so a comparison that lets more pass prints the same"
+
+
+# how a session's answers are compared, and the same with one pair of answers compared otherwise
+COMPARED = "given.answer == wanted.answer"
+
+
+def but_for(arm):
+    arm = arm.replace("Answer::", "model::Answer::").replace("Looked::", "model::Looked::")
+    return f"match (given.answer, wanted.answer) {{\n        {arm},\n        _ => {COMPARED},\n    }}"
 
 
 def one(label, crate, file, old, new, runs=(), survives=None):
@@ -65,21 +73,22 @@ PLANTS = [
     one("store-forgets-a-write", "passing", LIB, "        self.below.write(place, cell);\n", ""),
     one("store-writes-another-place", "passing", LIB, "self.below.write(place, cell);", "self.below.write(place / 2, cell);"),
     one("store-writes-a-second-place", "passing", LIB, "self.below.write(place, cell);", "self.below.write(place, cell);\n        self.below.write(0, cell);"),
-    one("store-writes-a-blank-cell", "passing", LIB, "self.below.write(place, cell);", "self.below.write(place, blank_cell());"),
+    one("store-writes-a-blank-cell", "passing", LIB, "self.below.write(place, cell);", "self.below.write(place, Cell::blank());"),
     one("store-reads-another-place", "passing", LIB, "self.below.read(place)", "self.below.read(place / 2)"),
-    one("store-reads-blank", "passing", LIB, "self.below.read(place)", "blank_cell()"),
-    one("store-changes-a-cell-on-read", "passing", LIB, "self.below.read(place)", "let cell = self.below.read(place);\n        self.below.write(place, blank_cell());\n        cell"),
+    one("store-reads-blank", "passing", LIB, "self.below.read(place)", "Cell::blank()"),
+    one("store-changes-a-cell-on-read", "passing", LIB, "self.below.read(place)", "let cell = self.below.read(place);\n        self.below.write(place, Cell::blank());\n        cell"),
     one("store-counts-half", "passing", LIB, "self.below.count()", "self.below.count() / 2"),
     # ---- values
     one("kind-moved-as-free", "values", "cells.rt", "(false, true) => Kind::Moved", "(false, true) => Kind::Free"),
-    one("blank-waits", "values", "cells.rt", "waiting: false,", "waiting: true,"),
+    one("blank-waits", "values", "cells.rt", "waiting: false,\n            parts: [Value::Nil; 2],", "waiting: true,\n            parts: [Value::Nil; 2],"),
     one("value-place-as-nil", "values", "records.rt", "PlainValue::Cell(place) => Value::Cell(place)", "PlainValue::Cell(_) => Value::Nil"),
-    one("plain-parts-swapped", "values", "records.rt", "[plain_of(parts[0]), plain_of(parts[1])]", "[plain_of(parts[1]), plain_of(parts[0])]"),
-    one("value-parts-first-twice", "values", "records.rt", "[value_of(parts[0]), value_of(parts[1])]", "[value_of(parts[0]), value_of(parts[0])]"),
+    one("plain-parts-swapped", "values", "records.rt", "c.parts.map(PlainValue::from)", "[c.parts[1].into(), c.parts[0].into()]"),
+    one("value-parts-first-twice", "values", "records.rt", "r.parts.map(Value::from)", "[r.parts[0].into(), r.parts[0].into()]"),
     one("record-mark-from-waiting", "values", "records.rt", "mark: c.mark,", "mark: c.waiting,"),
+    one("opening-second-part", "values", "cells.rt", "parts: [next, Value::Nil],", "parts: [Value::Nil, next],"),
     one("number-sign-turned", "values", "numbers.rt", "f32_from_bits_with_nan(pattern)", "f32_from_bits_with_nan(pattern ^ 0x8000_0000)"),
     # ---- the table store
-    one("table-forgets-a-write", "table", LIB, "            self.cells[at] = record_of(cell);\n", ""),
+    one("table-forgets-a-write", "table", LIB, "            self.cells[at] = cell.into();\n", ""),
     one("table-writes-the-last", "table", LIB, "self.cells[at] = ", "self.cells[self.cells.len() - 1] = "),
     one("table-last-place-past", "table", LIB, "        self.cells\n            .get(", "        self.cells[..self.cells.len().saturating_sub(1)]\n            .get("),
     one("table-one-place-more", "table", LIB, "if at < self.cells.len()", "if at <= self.cells.len()"),
@@ -96,9 +105,9 @@ PLANTS = [
     one("nil-with-a-word", "packed", "words.rt", "Value::Nil => five_of(NIL, 0)", "Value::Nil => five_of(NIL, 1)"),
     one("part-of-a-group-counts", "packed", "groups.rt", "8 * (len / GROUP_SIZE)", "len / (GROUP_SIZE / 8)"),
     # ---- the pushdown list
-    one("push-one-past-the-end", "stack", LIB, "if used(slots, *height) < slots.len() {", "if used(slots, *height) <= slots.len() {"),
+    one("push-one-past-the-end", "stack", LIB, "if used(slots, *height) == slots.len() {", "if used(slots, *height) > slots.len() {"),
     one("push-raises-twice", "stack", LIB, "*height += 1;", "*height += 2;"),
-    one("push-writes-nothing", "stack", LIB, "        slots[*height] = x;\n", ""),
+    one("push-writes-nothing", "stack", LIB, "    slots[*height] = x;\n", ""),
     one("pop-answers-the-second", "stack", LIB, "let top = peek(slots, *height, 0);", "let top = peek(slots, *height, 1);"),
     one("peek-from-the-bottom", "stack", LIB, "Some(slots[used - 1 - depth])", "Some(slots[depth])"),
     one("discard-from-the-given-height", "stack", LIB, "    let used = used(slots, *height);\n", "    let used = *height;\n"),
@@ -115,20 +124,25 @@ PLANTS = [
     one("record-after-its-place", "tape", "whole.rt", "place: rest.place,", "place: taken.rest.place,"),
     one("number-of-load-as-store", "tape", "records.rt", "Record::Load(_) => 3", "Record::Load(_) => 4"),
     # ---- numbers and words of answers
-    one("at-rest-as-6", "model", "answers.rt", "Refusal::AtRest => 7", "Refusal::AtRest => 6"),
+    one("at-rest-as-6", "model", "answers.rt", "self as u8", "(self as u8).min(6)"),
     one("mark-printed-as-rest", "model", "answers.rt", 'PhaseName::Mark => "mark"', 'PhaseName::Mark => "rest"'),
+    one("pattern-with-few-digits", "model", "answers.rt", "{pattern:08x}", "{pattern:x}"),
+    one("returned-turned", "model", "answers.rt", "u8::from(self.returned)", "u8::from(!self.returned)"),
+    one("census-not-printed", "model", "answers.rt", 'Answer::Census(count) => write!(f, "{count}")', "Answer::Census(_) => Ok(())"),
+    one("look-of-a-cell-nil", "model", "answers.rt", "Value::Cell(_) => Looked::Cell", "Value::Cell(_) => Looked::Nil"),
+    one("update-named-relocate", "model", "answers.rt", "Phase::Update { .. } => PhaseName::Update", "Phase::Update { .. } => PhaseName::Relocate"),
     # ---- places, normalise and offer
     one("place-4096-written", "barrier", "access.rt", "if place < MOST_PLACES {\n        s.write", "if place <= MOST_PLACES {\n        s.write"),
     one("4095-places", "barrier", "access.rt", "const MOST_PLACES: u32 = 4096;", "const MOST_PLACES: u32 = 4095;"),
     one("offers-in-relocate", "barrier", "offers.rt", "let Phase::Mark { .. } = regs.phase", "let Phase::Relocate { .. } = regs.phase"),
-    one("offer-tests-the-mark", "barrier", "offers.rt", "if cell.waiting {", "if cell.mark {"),
+    one("offer-tests-the-mark", "barrier", "offers.rt", "|| cell.waiting {", "|| cell.mark {"),
     one("offer-of-place-n", "barrier", "offers.rt", "place >= places(s)", "place > places(s)"),
     one("offer-not-written", "barrier", "offers.rt", "        write_place(s, place, waiting);\n", ""),
     one("offer-all-but-the-first", "barrier", "offers.rt", "    offer(top, regs, s, parts[0]);\n", ""),
-    one("normalise-a-free-place", "barrier", "normal.rt", "Kind::Plain | Kind::Accessible | Kind::Free =>", "Kind::Free => cell.parts[0],\n        Kind::Plain | Kind::Accessible =>"),
+    one("normalise-a-free-place", "barrier", "normal.rt", "if cell.kind() == Kind::Moved {", "if cell.kind() == Kind::Moved || cell.kind() == Kind::Free {"),
     one("push-offers-as-given", "barrier", "pushes.rt", "offer(top, regs, s, normal);", "offer(top, regs, s, v);"),
-    one("push-offers-nothing", "barrier", "pushes.rt", "        offer(top, regs, s, normal);\n", ""),
-    one("full-list-as-too-few", "barrier", "pushes.rt", "Err(Refusal::ListFull)", "Err(Refusal::TooFew)"),
+    one("push-offers-nothing", "barrier", "pushes.rt", "    offer(top, regs, s, normal);\n", ""),
+    one("full-list-as-too-few", "barrier", "pushes.rt", "|_| Refusal::ListFull", "|_| Refusal::TooFew"),
     # ---- the calls on the list and the roots
     one("store-drops-two", "lists", "pops.rt", "stack::discard(&regs.list, &mut top.height, 1);\n    regs", "stack::discard(&regs.list, &mut top.height, 2);\n    regs"),
     one("store-offers-nothing", "lists", "pops.rt", f"= normal;\n    {OFFER}", "= normal;\n"),
@@ -136,16 +150,15 @@ PLANTS = [
     one("pdlput-at-depth-1", "lists", "pops.rt", "top.height, depth as usize, normal)", "top.height, 1, normal)"),
     one("pdlput-keeps-the-top", "lists", "pops.rt", f"    stack::discard(&regs.list, &mut top.height, 1);\n    {OFFER}", f"    {OFFER}"),
     one("pdlput-as-given", "lists", "pops.rt", "top.height, depth as usize, normal)", "top.height, depth as usize, v)"),
-    one("popitem-of-nothing-granted", "lists", "pops.rt", "None => Err(Refusal::TooFew)", "None => Ok(())"),
-    one("load-16-as-too-few", "lists", "pushes.rt", "return Err(Refusal::OutOfRange);", "return Err(Refusal::TooFew);"),
-    one("look-of-a-cell-nil", "lists", "questions.rt", "Value::Cell(_) => Looked::Cell", "Value::Cell(_) => Looked::Nil"),
+    one("popitem-of-nothing-granted", "lists", "pops.rt", "stack::pop(&regs.list, &mut top.height).ok_or(Refusal::TooFew)?;", "let _ = stack::pop(&regs.list, &mut top.height);"),
+    one("load-16-as-too-few", "lists", "pushes.rt", "ok_or(Refusal::OutOfRange)?", "ok_or(Refusal::TooFew)?"),
     one("numbers-as-numbers", "lists", "questions.rt", "pattern_of(x) == pattern_of(y)", "x == y"),
     one("other-kinds-identical", "lists", "questions.rt", "_ => false,", "_ => true,"),
     one("identical-drops-one", "lists", "questions.rt", "&mut top.height, 2)", "&mut top.height, 1)"),
     one("identical-as-given", "lists", "questions.rt", "let above = normalise(s, two[1]);", "let above = two[1];"),
     # ---- the calls on cells
-    one("component-3", "components", "parts.rt", "component > 2", "component > 3"),
-    one("component-0", "components", "parts.rt", "component < 1 || component > 2", "component > 2"),
+    one("component-3", "components", "parts.rt", "(1..=2)", "(1..=3)"),
+    one("component-0", "components", "parts.rt", "(1..=2)", "(0..=2)"),
     one("select-offers-nothing", "components", "selects.rt", "    offer(top, regs, s, part);\n", ""),
     one("select-as-given", "components", "selects.rt", "normalise(s, cell.parts[index])", "cell.parts[index]"),
     one("select-pushes-the-cell", "components", "selects.rt", "top.height, 0, part)", "top.height, 0, v)"),
@@ -158,12 +171,12 @@ PLANTS = [
     one("clobber-not-written", "components", "clobbers.rt", "    write_place(s, place, cell);\n", ""),
     one("new-cell-plain-at-the-sweep", "components", "creates.rt", "sweep <= place", "sweep < place"),
     one("new-cell-marked-at-rest", "components", "creates.rt", "Phase::Rest => false", "Phase::Rest => true"),
-    one("new-cell-waits", "components", "creates.rt", "waiting: false,", "waiting: true,"),
+    one("new-cell-waits", "components", "creates.rt", "..Cell::blank()", "waiting: true,\n        ..Cell::blank()"),
     one("create-offers-nothing", "components", "creates.rt", "    offer_all(top, regs, s, parts);\n", ""),
-    one("create-as-given", "components", "creates.rt", "            parts,\n", "            parts: two,\n"),
+    one("create-as-given", "components", "creates.rt", "        parts,\n", "        parts: two,\n"),
     one("create-drops-two", "components", "creates.rt", "&mut top.height, 1)", "&mut top.height, 2)"),
     one("free-list-kept", "components", "creates.rt", "regs.free = shortened(vacant.parts[0], free);", "regs.free = Some(free);"),
-    one("free-list-ends-at-its-first", "components", "creates.rt", "last: free.last", "last: free.first"),
+    one("free-list-ends-at-its-first", "components", "creates.rt", "FreeList { first, ..free }", "FreeList { first, last: first }"),
     # ---- what a step does to a place
     one("popped-place-still-waits", "steps", "marks.rt", "    cell.waiting = false;\n", ""),
     one("popped-place-not-written", "steps", "marks.rt", "    cell.mark = true;\n    write_place(s, place, cell);\n", "    cell.mark = true;\n"),
@@ -171,7 +184,7 @@ PLANTS = [
     one("copy-over-the-source", "steps", "moves.rt", "write_place(s, to, cell);", "write_place(s, from, cell);"),
     one("update-not-written", "steps", "moves.rt", "        write_place(s, place, cell);\n", ""),
     one("returned-place-not-linked", "steps", "returns.rt", "            write_place(s, ends.last, cell);\n", ""),
-    one("returned-place-waits", "steps", "returns.rt", "waiting: false,", "waiting: true,"),
+    one("returned-place-waits", "steps", "returns.rt", "Cell::free(Value::Nil)", "Cell {\n        waiting: true,\n        ..Cell::free(Value::Nil)\n    }"),
     one("first-returned-not-last", "steps", "returns.rt", "                last: place,\n", "                last: 0,\n"),
     # ---- begin and step
     one("begin-2-granted", "collector", "begins.rt", "moving > 1", "moving > 2"),
@@ -181,29 +194,31 @@ PLANTS = [
     one("components-not-offered", "collector", "stepping.rt", "                offer_all(top, regs, s, parts);\n", ""),
     one("relocate-from-1", "collector", "stepping.rt", "Phase::Relocate { low: 0, high }", "Phase::Relocate { low: 1, high }"),
     one("relocate-one-more", "collector", "stepping.rt", "if *low >= *high {", "if *low > *high {"),
-    one("plain-cells-move", "collector", "stepping.rt", "if let Kind::Accessible = kind_of(read_place(s, *high)) {", "if let Kind::Plain = kind_of(read_place(s, *high)) {"),
+    one("plain-cells-move", "collector", "stepping.rt", "if read_place(s, *high).kind() == Kind::Accessible {", "if read_place(s, *high).kind() == Kind::Plain {"),
     one("low-not-raised", "collector", "stepping.rt", "*low);\n                *low += 1;\n", "*low);\n"),
     one("update-root-as-given", "collector", "stepping.rt", "regs.roots[*root] = normalise(s, v);", "regs.roots[*root] = v;"),
     one("update-place-raised-twice", "collector", "stepping.rt", "*place += 1;", "*place += 2;"),
     one("update-slot-not-written", "collector", "stepping.rt", "                stack::replace_slot(&mut regs.list, top.height, *slot, normal);\n", ""),
     one("return-not-reported", "collector", "stepping.rt", "return done(regs, true);", "return done(regs, false);"),
     one("moved-places-not-returned", "collector", "stepping.rt", "Kind::Plain | Kind::Moved => {", "Kind::Moved => {}\n                Kind::Plain => {"),
-    one("update-named-relocate", "collector", "answers.rt", "Phase::Update { .. } => PhaseName::Update", "Phase::Update { .. } => PhaseName::Relocate"),
     # ---- the opening and the census
     one("opening-names-one-more", "scan", "opening.rt", "let first = if next < n {", "let first = if next <= n {"),
     one("opening-ends-one-early", "scan", "opening.rt", "for place in 0..n {", "for place in 1..n {"),
-    one("opening-second-part", "scan", "opening.rt", "parts: [first, Value::Nil],", "parts: [Value::Nil, first],"),
     one("opening-first-1", "scan", "opening.rt", "first: 0,", "first: 1,"),
     one("opening-in-mark", "scan", "opening.rt", "phase: Phase::Rest,", "phase: Phase::Reclaim { sweep: 0 },"),
     one("opening-height-1", "scan", "opening.rt", "top: Top { height: 0 },", "top: Top { height: 1 },"),
-    one("census-counts-free", "scan", "counts.rt", "Kind::Free => 0", "Kind::Free => 1"),
-    one("census-from-1", "scan", "counts.rt", "for place in 0..end(s) {", "for place in 1..end(s) {"),
+    one("census-counts-free", "scan", "counts.rt", "usize::from(kind != Kind::Free)", "usize::from(kind != Kind::Free).max(1)"),
+    one("census-from-1", "scan", "counts.rt", "for place in 0..places(s) {", "for place in 1..places(s) {"),
     # ---- every call, and runs
     one("load-as-store", "heap", "every.rt", "lists::load(top, regs, s, root)?", "lists::store(top, regs, s, root)?"),
     one("pdlget-with-another-depth", "heap", "every.rt", "lists::pdlget(top, regs, s, depth)?", "lists::pdlget(top, regs, s, 0)?"),
     one("identical-answers-done", "heap", "every.rt", "return Ok(Answer::Same(lists::identical(top, regs, s)?))", "{\n                let _ = lists::identical(top, regs, s)?;\n            }"),
-    one("first-call-not-made", "heap", "runs.rt", "for at in 0..log.len() {", "for at in 1..log.len() {"),
-    one("answer-at-another-call", "heap", "runs.rt", "log[at].answer = perform(top, regs, s, log[at].call);", "log[0].answer = perform(top, regs, s, log[at].call);"),
+    one("first-call-not-made", "heap", "runs.rt", "log.iter_mut()", "log.iter_mut().skip(1)"),
+    Plant(
+        "answer-at-another-call", "heap",
+        ("runs.rt", "    for event in log.iter_mut() {\n", "    let mut before = Err(model::Refusal::AtRest);\n    for event in log.iter_mut() {\n"),
+        ("runs.rt", "event.call);\n", "event.call);\n        std::mem::swap(&mut event.answer, &mut before);\n"),
+    ),
     # ---- the player
     one("load-and-store-exchanged", "player", "calls.rt", "Record::Load(root) => ListCall::Load(root)", "Record::Load(root) => ListCall::Store(root)"),
     one("note-as-a-call", "player", "calls.rt", "Record::Note(_) => return None", "Record::Note(_) => return Some(Call::Census)"),
@@ -219,9 +234,6 @@ PLANTS = [
     one("line-of-the-next-place", "lines", "granted.rt", "placed: played.placed,", "placed: Placed { place: played.placed.place.saturating_add(1), ..played.placed },"),
     one("kind-before-place", "lines", "granted.rt", '"{place} {kind} ok"', '"{kind} {place} ok"'),
     one("text-with-short-bytes", "tape", "records.rt", "{byte:02x}", "{byte:x}"),
-    one("pattern-with-few-digits", "model", "answers.rt", "{pattern:08x}", "{pattern:x}"),
-    one("returned-turned", "model", "answers.rt", "u8::from(self.returned)", "u8::from(!self.returned)"),
-    one("census-not-printed", "model", "answers.rt", 'Answer::Census(count) => write!(f, "{count}")', "Answer::Census(_) => Ok(())"),
     one("fault-line-left-out", "lines", "listing.rt", "        write_fault(out, fault)?;\n    }\n    let count", "        let _ = fault;\n    }\n    let count"),
     one("last-line-one-more", "lines", "listing.rt", 'writeln!(out, "end {count}")?;', 'let more = count.saturating_add(1);\n    writeln!(out, "end {more}")?;'),
     one("table-of-1023-cells", "play", "main.rt", "[BLANK; 1024]", "[BLANK; 1023]"),
@@ -236,11 +248,11 @@ PLANTS = [
     one("dump-pattern-with-few-digits", "tape", "records.rt", "{pattern:08x}", "{pattern:x}"),
     one("dump-begin-without-argument", "tape", "records.rt", "            | Record::Pdlput(n)\n            | Record::Begin(n) =>", "            | Record::Pdlput(n) =>"),
     one("dump-fault-left-out", "dump", "main.rt", "        let line = BadLine(fault);\n        writeln!(out, \"{line}\")?;\n", "        let _ = fault;\n"),
-    one("sessions-compare-no-census", "sessions", "compare.rt", "(Answer::Census(x), Answer::Census(y)) => x == y", "(Answer::Census(_), Answer::Census(_)) => true", survives=AS_EXPECTED),
-    one("sessions-compare-no-phase", "sessions", "compare.rt", "phase_word(x.phase) == phase_word(y.phase) && x.returned == y.returned", "x.returned == y.returned", survives=AS_EXPECTED),
-    one("sessions-compare-no-return", "sessions", "compare.rt", "phase_word(x.phase) == phase_word(y.phase) && x.returned == y.returned", "phase_word(x.phase) == phase_word(y.phase)", survives=AS_EXPECTED),
-    one("sessions-compare-no-number", "sessions", "compare.rt", "pattern_of(x) == pattern_of(y)", "true", survives=AS_EXPECTED),
-    one("sessions-compare-no-refusal", "sessions", "compare.rt", "refusal_number(x) == refusal_number(y)", "true", survives=AS_EXPECTED),
-    one("sessions-compare-not-at-all", "sessions", "compare.rt", "if !same_result(given.answer, wanted.answer) {", "if false {", survives=AS_EXPECTED),
+    one("sessions-compare-no-census", "sessions", "compare.rt", COMPARED, but_for("(Ok(Answer::Census(_)), Ok(Answer::Census(_))) => true")),
+    one("sessions-compare-no-phase", "sessions", "compare.rt", COMPARED, but_for("(Ok(Answer::Step(x)), Ok(Answer::Step(y))) => x.returned == y.returned")),
+    one("sessions-compare-no-return", "sessions", "compare.rt", COMPARED, but_for("(Ok(Answer::Step(x)), Ok(Answer::Step(y))) => x.phase == y.phase")),
+    one("sessions-compare-no-number", "sessions", "compare.rt", COMPARED, but_for("(Ok(Answer::Look(Looked::Number(_))), Ok(Answer::Look(Looked::Number(_)))) => true")),
+    one("sessions-compare-no-refusal", "sessions", "compare.rt", COMPARED, but_for("(Err(_), Err(_)) => true")),
+    one("sessions-compare-not-at-all", "sessions", "compare.rt", "!is_as_expected(given, wanted)", "!is_as_expected(given, wanted) && false"),
     one("tally-grants-all", "tally", "calls.rt", "event.answer.is_ok()", "event.answer.is_ok() || true"),
 ]

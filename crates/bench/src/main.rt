@@ -4,55 +4,43 @@
 
 mod rounds;
 
-use model::Event;
-use packed::PackedStore;
+use fresh::StoreKind;
 use std::io;
 use std::io::Read;
-use table::TableStore;
-use values::{Cell, CellRecord};
 
 const LIMIT: u64 = 1_024;
 
-fn over_table(rt: &HostRuntime, log: &mut [Event]) -> io::Result<()> {
-    let mut cells: Vec<CellRecord> = Vec::new(rt.alloc());
-    for _ in 0..4096 {
-        cells.push(Cell::blank().into())?;
-    }
-    let mut store = TableStore {
-        cells: cells.as_mut_slice(),
-    };
-    heap::run(&mut store, log);
-    Ok(())
+// 4,096 cells.
+const GROUPS: u16 = 512;
+
+// What a run is of.
+enum Work {
+    ListCalls,
+    Cycles,
 }
 
-fn over_packed(rt: &HostRuntime, log: &mut [Event]) -> io::Result<()> {
-    let mut bytes: Vec<u8> = Vec::new(rt.alloc());
-    for _ in 0..42496 {
-        bytes.push(0)?;
+// The store that a letter asks for, a table where it names none; 'n' asks for no run.
+fn store_of(letter: u8) -> Option<StoreKind> {
+    match letter {
+        b'n' => None,
+        letter => Some(StoreKind::try_from(letter).unwrap_or(StoreKind::Table)),
     }
-    let mut store = PackedStore {
-        bytes: bytes.as_mut_slice(),
-    };
-    heap::run(&mut store, log);
-    Ok(())
 }
 
 fn main(rt: HostRuntime) -> io::Result<()> {
     let mut input = Vec::new(rt.alloc());
     let _ = rt.stdin().take(LIMIT).read_to_end(&mut input)?;
-    let (store, work, count) = match input.as_slice() {
-        [store, work, rest @ ..] => (*store, *work, rest.len()),
-        _ => (b't', b'l', 0),
+    let (store, work, rounds) = match input.as_slice() {
+        [store, b's', rounds @ ..] => (store_of(*store), Work::Cycles, rounds.len()),
+        [store, _, rounds @ ..] => (store_of(*store), Work::ListCalls, rounds.len()),
+        _ => (Some(StoreKind::Table), Work::ListCalls, 0),
     };
-    let mut log = if work == b's' {
-        rounds::cycles(rt.alloc(), count)?
-    } else {
-        rounds::list_calls(rt.alloc(), count)?
+    let mut log = match work {
+        Work::ListCalls => rounds::list_calls(rt.alloc(), rounds)?,
+        Work::Cycles => rounds::cycles(rt.alloc(), rounds)?,
     };
-    match store {
-        b'n' => {}
-        b'p' => over_packed(&rt, log.as_mut_slice())?,
-        _ => over_table(&rt, log.as_mut_slice())?,
+    if let Some(kind) = store {
+        kind.run(rt.alloc(), GROUPS, log.as_mut_slice())?;
     }
     let calls = log.len();
     println!(rt; "{calls} calls")

@@ -1,45 +1,57 @@
 // The runs: calls whose answers are yet to be given.
-use model::{Call, Event, ListCall, Refusal};
+use model::{Call, Event, ListCall};
 use std::alloc::{AllocError, Global};
-use values::number_of;
+use std::iter::repeat_n;
 
-fn ask(log: &mut Vec<Event>, call: Call) -> Result<(), AllocError> {
-    log.push(Event {
-        call,
-        answer: Err(Refusal::AtRest),
-    })?;
+// Twenty list calls, one of them a create.
+const ROUND: [ListCall; 20] = [
+    ListCall::Nil,
+    ListCall::Load(0),
+    ListCall::Create,
+    ListCall::Store(0),
+    ListCall::Load(0),
+    ListCall::Select(1),
+    ListCall::Popitem,
+    ListCall::Load(0),
+    ListCall::Number(2.0),
+    ListCall::Clobber(1),
+    ListCall::Load(0),
+    ListCall::Look,
+    ListCall::Load(0),
+    ListCall::Identical,
+    ListCall::Load(0),
+    ListCall::Nil,
+    ListCall::Pdlget(1),
+    ListCall::Pdlput(1),
+    ListCall::Popitem,
+    ListCall::Popitem,
+];
+
+// A cell that is dropped, and one that is put before the chain in root 0.
+const PAIR: [ListCall; 8] = [
+    ListCall::Nil,
+    ListCall::Nil,
+    ListCall::Create,
+    ListCall::Popitem,
+    ListCall::Nil,
+    ListCall::Load(0),
+    ListCall::Create,
+    ListCall::Store(0),
+];
+
+// A cycle takes fewer steps than this; those after it are refused.
+const STEPS: usize = 14_000;
+
+fn ask_all(log: &mut Vec<Event>, calls: &[ListCall]) -> Result<(), AllocError> {
+    log.extend(calls.iter().map(|call| Event::asked(Call::List(*call))))?;
     Ok(())
 }
 
-// So many rounds of twenty list calls, one of them a create.
+// So many rounds of list calls.
 pub fn list_calls(heap: Global, rounds: usize) -> Result<Vec<Event>, AllocError> {
     let mut log = Vec::new(heap);
-    let round = [
-        ListCall::Nil,
-        ListCall::Load(0),
-        ListCall::Create,
-        ListCall::Store(0),
-        ListCall::Load(0),
-        ListCall::Select(1),
-        ListCall::Popitem,
-        ListCall::Load(0),
-        ListCall::Number(number_of(0x4000_0000)),
-        ListCall::Clobber(1),
-        ListCall::Load(0),
-        ListCall::Look,
-        ListCall::Load(0),
-        ListCall::Identical,
-        ListCall::Load(0),
-        ListCall::Nil,
-        ListCall::Pdlget(1),
-        ListCall::Pdlput(1),
-        ListCall::Popitem,
-        ListCall::Popitem,
-    ];
     for _ in 0..rounds {
-        for call in round {
-            ask(&mut log, Call::List(call))?;
-        }
+        ask_all(&mut log, &ROUND)?;
     }
     Ok(log)
 }
@@ -47,27 +59,12 @@ pub fn list_calls(heap: Global, rounds: usize) -> Result<Vec<Event>, AllocError>
 // A chain of 1,024 cells among as many that are dropped, and then so many moving cycles.
 pub fn cycles(heap: Global, rounds: usize) -> Result<Vec<Event>, AllocError> {
     let mut log = Vec::new(heap);
-    let pair = [
-        ListCall::Nil,
-        ListCall::Nil,
-        ListCall::Create,
-        ListCall::Popitem,
-        ListCall::Nil,
-        ListCall::Load(0),
-        ListCall::Create,
-        ListCall::Store(0),
-    ];
     for _ in 0..1024 {
-        for call in pair {
-            ask(&mut log, Call::List(call))?;
-        }
+        ask_all(&mut log, &PAIR)?;
     }
-    // a cycle takes fewer steps than this; those after it are refused
     for _ in 0..rounds {
-        ask(&mut log, Call::Begin(1))?;
-        for _ in 0..14_000 {
-            ask(&mut log, Call::Step)?;
-        }
+        log.push(Event::asked(Call::Begin(1)))?;
+        log.extend(repeat_n(Event::asked(Call::Step), STEPS))?;
     }
     Ok(log)
 }

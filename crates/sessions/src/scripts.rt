@@ -1,4 +1,8 @@
 // The sessions: calls with the answers expected of them.
+ghost use Rattle.std.specs.Prelude.{◌≡◌, map, IfOk};
+ghost use Rattle.model.specs.Answers.{asked};
+ghost use Rattle.model.specs.declared.calls.Event.{Event as EventT};
+
 use model::{Answer, Call, Event, ListCall, Looked, PhaseName, Refusal, Stepped};
 use std::alloc::{AllocError, Global};
 use values::number_of;
@@ -18,6 +22,16 @@ impl Session {
             groups,
             events: Vec::new(heap),
         }
+    }
+
+    // Its calls, whose answers are yet to be given.
+    pub fn unanswered(&self, heap: Global) -> Result<Vec<Event>, AllocError>
+        ensures { IfOk result (λ log. log.items ≡ map (λ (e : EventT). asked e.call) self.now.events.items) }
+    {
+        self.events
+            .iter()
+            .map(|event| Event::asked(event.call))
+            .collect(heap)
     }
 
     fn expect(&mut self, call: Call, answer: Result<Answer, Refusal>) -> Result<(), AllocError> {
@@ -53,20 +67,34 @@ impl Session {
         self.expect(Call::Census, Ok(Answer::Census(cells)))
     }
 
-    // So many steps that answer this phase, each or none of which returns a place.
-    fn steps(&mut self, count: u32, phase: PhaseName, returned: bool) -> Result<(), AllocError> {
+    // So many steps that answer this.
+    fn stepping(&mut self, count: u32, stepped: Stepped) -> Result<(), AllocError> {
         for _ in 0..count {
-            self.expect(Call::Step, Ok(Answer::Step(Stepped { phase, returned })))?;
+            self.expect(Call::Step, Ok(Answer::Step(stepped)))?;
         }
         Ok(())
     }
 
-    // So many steps of each of these.
-    fn cycles(&mut self, parts: &[(u32, PhaseName, bool)]) -> Result<(), AllocError> {
-        for part in parts {
-            self.steps(part.0, part.1, part.2)?;
-        }
-        Ok(())
+    // So many steps that answer this phase and return no place.
+    fn steps(&mut self, count: u32, phase: PhaseName) -> Result<(), AllocError> {
+        self.stepping(
+            count,
+            Stepped {
+                phase,
+                returned: false,
+            },
+        )
+    }
+
+    // So many steps of the sweep, each of which returns a place.
+    fn returns(&mut self, count: u32) -> Result<(), AllocError> {
+        self.stepping(
+            count,
+            Stepped {
+                phase: PhaseName::Reclaim,
+                returned: true,
+            },
+        )
     }
 
     // The chain in root 3 begins with this number, and goes on in the second component.
@@ -187,13 +215,10 @@ fn many_cells(heap: Global) -> Result<Session, AllocError> {
     s.refuses(ListCall::Create, Refusal::NoSpace)?;
     s.counts(4096)?;
     s.begins(0)?;
-    let cycle = [
-        (18, PhaseName::Mark, false),
-        (1, PhaseName::Reclaim, false),
-        (4096, PhaseName::Reclaim, true),
-        (1, PhaseName::Rest, false),
-    ];
-    s.cycles(&cycle)?;
+    s.steps(18, PhaseName::Mark)?;
+    s.steps(1, PhaseName::Reclaim)?;
+    s.returns(4096)?;
+    s.steps(1, PhaseName::Rest)?;
     s.counts(0)?;
     s.grants(ListCall::Create)?;
     s.counts(1)?;
@@ -214,18 +239,12 @@ fn moved_chain(heap: Global) -> Result<Session, AllocError> {
     s.counts(1024)?;
     s.begins(1)?;
     // Marking: sixteen roots and 512 cells. Relocating: the dropped cells lie at the even places.
-    let cycle = [
-        (528, PhaseName::Mark, false),
-        (1, PhaseName::Relocate, false),
-        (768, PhaseName::Relocate, false),
-        (1, PhaseName::Update, false),
-        (1040, PhaseName::Update, false),
-        (1, PhaseName::Reclaim, false),
-        (512, PhaseName::Reclaim, false),
-        (512, PhaseName::Reclaim, true),
-        (1, PhaseName::Rest, false),
-    ];
-    s.cycles(&cycle)?;
+    s.steps(528, PhaseName::Mark)?;
+    s.steps(769, PhaseName::Relocate)?;
+    s.steps(1041, PhaseName::Update)?;
+    s.steps(513, PhaseName::Reclaim)?;
+    s.returns(512)?;
+    s.steps(1, PhaseName::Rest)?;
     s.counts(512)?;
     for i in (0..512).rev() {
         s.takes_number(i)?;
@@ -257,12 +276,12 @@ fn depths(heap: Global) -> Result<Session, AllocError> {
 
 // Every session.
 pub fn all(heap: Global) -> Result<Vec<Session>, AllocError> {
-    let mut sessions = Vec::new(heap);
-    sessions.push(full_list(heap)?)?;
-    sessions.push(refusals(heap)?)?;
-    sessions.push(numbers(heap)?)?;
-    sessions.push(many_cells(heap)?)?;
-    sessions.push(moved_chain(heap)?)?;
-    sessions.push(depths(heap)?)?;
-    Ok(sessions)
+    Ok(vec![in heap;
+        full_list(heap)?,
+        refusals(heap)?,
+        numbers(heap)?,
+        many_cells(heap)?,
+        moved_chain(heap)?,
+        depths(heap)?,
+    ]?)
 }

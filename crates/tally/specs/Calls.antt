@@ -1,18 +1,18 @@
 -- The calls of a tape as a log, and how many calls of a log were granted.
-use Rattle.std.specs.Prelude.{ℕ, List, [], ◌∷◌, Some, None, Err, Option}
+use Rattle.std.specs.Prelude.{ℕ, List, [], ◌∷◌, Some, None, Option}
 use Rattle.std.specs.List.{flat_map, count_by}
 use Rattle.std.specs.Result.{is_ok}
-use Rattle.model.specs.declared.answers.Refusal.TheVariants as R
+use Rattle.model.specs.Answers.{asked}
 use Rattle.model.specs.declared.calls.Call.{Call}
 use Rattle.model.specs.declared.calls.Event.{Event}
 use Rattle.player.specs.Calls.{call_of}
 use Rattle.tape.specs.Format.{Entry}
 use Rattle.tape.specs.Whole.{read_whole}
 
--- A call that is yet to be answered stands with the refusal of a step at rest; a note is no call.
+-- A call, yet to be answered; a note is none.
 abbrev pub unanswered : Option Call → List Event
 unanswered None = []
-unanswered (Some c) = record { call = c; answer = Err R.AtRest } ∷ []
+unanswered (Some c) = asked c ∷ []
 
 -- The calls of these records, in order.
 abbrev pub calls_in : List (ℕ × Entry) → List Event

@@ -2,7 +2,7 @@
 ghost use Rattle.std.specs.Prelude.{◌≡◌, IfOk};
 ghost use Rattle.tally.specs.Calls.{calls_on, granted_in};
 
-use model::{Event, Refusal};
+use model::Event;
 use player::call_of;
 use std::alloc::{AllocError, Global};
 use tape::read_all;
@@ -12,16 +12,12 @@ pub fn log_of(heap: Global, tape: &[u8]) -> Result<Vec<Event>, AllocError>
     ensures { IfOk result (λ log. log.items ≡ calls_on tape.now) }
 {
     let reading = read_all(heap, tape)?;
-    let mut log = Vec::new(heap);
-    for placed in reading.records.iter() {
-        if let Some(call) = call_of(placed.record) {
-            log.push(Event {
-                call,
-                answer: Err(Refusal::AtRest),
-            })?;
-        }
-    }
-    Ok(log)
+    reading
+        .records
+        .iter()
+        .filter_map(|placed| call_of(placed.record))
+        .map(Event::asked)
+        .collect(heap)
 }
 
 // How many calls of a log were granted.

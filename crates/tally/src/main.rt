@@ -5,57 +5,28 @@
 
 mod calls;
 
-use model::Event;
-use packed::PackedStore;
+use fresh::StoreKind;
 use std::io;
 use std::io::Read;
-use table::TableStore;
-use values::{Cell, CellRecord};
 
 const LIMIT: u64 = 1_048_576;
 
-fn over_table(rt: &HostRuntime, groups: usize, log: &mut [Event]) -> io::Result<()> {
-    let mut cells: Vec<CellRecord> = Vec::new(rt.alloc());
-    for _ in 0..groups {
-        for _ in 0..8 {
-            cells.push(Cell::blank().into())?;
-        }
-    }
-    let mut store = TableStore {
-        cells: cells.as_mut_slice(),
-    };
-    heap::run(&mut store, log);
-    Ok(())
-}
+// The groups of eight cells of a small store and of a large one.
+const SMALL: u16 = 8;
 
-fn over_packed(rt: &HostRuntime, groups: usize, log: &mut [Event]) -> io::Result<()> {
-    let mut bytes: Vec<u8> = Vec::new(rt.alloc());
-    for _ in 0..groups {
-        for _ in 0..83 {
-            bytes.push(0)?;
-        }
-    }
-    let mut store = PackedStore {
-        bytes: bytes.as_mut_slice(),
-    };
-    heap::run(&mut store, log);
-    Ok(())
-}
+const LARGE: u16 = 512;
 
 fn main(rt: HostRuntime) -> io::Result<()> {
     let mut input = Vec::new(rt.alloc());
     let _ = rt.stdin().take(LIMIT).read_to_end(&mut input)?;
-    let (store, size, tape) = match input.as_slice() {
-        [store, size, tape @ ..] => (*store, *size, tape),
-        tape => (b'n', b's', tape),
+    let (store, groups, tape) = match input.as_slice() {
+        [store, b'l', tape @ ..] => (StoreKind::try_from(*store).ok(), LARGE, tape),
+        [store, _, tape @ ..] => (StoreKind::try_from(*store).ok(), SMALL, tape),
+        tape => (None, SMALL, tape),
     };
-    // a group is eight cells
-    let groups = if size == b'l' { 512 } else { 8 };
     let mut log = calls::log_of(rt.alloc(), tape)?;
-    match store {
-        b't' => over_table(&rt, groups, log.as_mut_slice())?,
-        b'p' => over_packed(&rt, groups, log.as_mut_slice())?,
-        _ => {}
+    if let Some(kind) = store {
+        kind.run(rt.alloc(), groups, log.as_mut_slice())?;
     }
     let made = log.len();
     let granted = calls::granted(log.as_slice());
