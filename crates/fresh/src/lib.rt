@@ -56,6 +56,7 @@ impl StoreKind {
         ensures { MatchResult result (λ _. RanFresh (8 * groups) log.old log.new) (λ _. log.new ≡ log.old) }
     {
         let groups = usize::from(groups);
+        // The memory differs in its type, its size and its first contents, and the store in the memory that it takes; the run itself is one.
         match self {
             StoreKind::Table => {
                 let mut cells = vec![in alloc; CellRecord::from(Cell::blank()); 8 * groups]?;
