@@ -240,9 +240,9 @@ PLANTS = [
     one("half-of-the-table", "play", "main.rt", "TableStore { cells: &mut cells }", "TableStore { cells: &mut cells[..512] }"),
     one("four-groups", "replay", "main.rt", "5 * 83", "4 * 83"),
     # ---- what the programs read
-    one("tape-of-one-byte-less", "input", LIB, "const LIMIT: usize = 65_536;", "const LIMIT: usize = 65_535;", runs=["replay"], survives=SHORT_TAPES),
-    one("tape-of-one-byte-more", "input", LIB, "const LIMIT: usize = 65_536;", "const LIMIT: usize = 65_537;"),
-    one("one-byte-less-read", "input", LIB, "take(LIMIT as u64)", "take(LIMIT as u64 - 1)", runs=["replay"], survives=SHORT_TAPES),
+    one("tape-of-one-byte-less", "input", LIB, "const TAPE_LIMIT: usize = 65_536;", "const TAPE_LIMIT: usize = 65_535;", runs=["replay"], survives=SHORT_TAPES),
+    one("tape-of-one-byte-more", "input", LIB, "const TAPE_LIMIT: usize = 65_536;", "const TAPE_LIMIT: usize = 65_537;"),
+    one("one-byte-less-read", "input", LIB, "take(LIMIT as u64)", "take((LIMIT as u64).saturating_sub(1))", runs=["replay"], survives=SHORT_TAPES),
     # ---- the other programs
     one("dump-name-before-kind", "dump", "main.rt", '"{place} {kind} {record}"', '"{place} {record} {kind}"'),
     one("dump-pattern-with-few-digits", "tape", "records.rt", "{pattern:08x}", "{pattern:x}"),

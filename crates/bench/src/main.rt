@@ -6,14 +6,14 @@ mod rounds;
 
 use fresh::StoreKind;
 use std::io;
-use std::io::Read;
 
-const LIMIT: u64 = 1_024;
+// How much of its input it takes.
+const LIMIT: usize = 1_024;
 
 // 4,096 cells.
 const GROUPS: u16 = 512;
 
-// What a run is of.
+// What a run is of: a closed list, matched once.
 enum Work {
     ListCalls,
     Cycles,
@@ -28,8 +28,7 @@ fn store_of(letter: u8) -> Option<StoreKind> {
 }
 
 fn main(rt: HostRuntime) -> io::Result<()> {
-    let mut input = Vec::new(rt.alloc());
-    let _ = rt.stdin().take(LIMIT).read_to_end(&mut input)?;
+    let input = input::read::<LIMIT>(&rt)?;
     let (store, work, rounds) = match input.as_slice() {
         [store, b's', rounds @ ..] => (store_of(*store), Work::Cycles, rounds.len()),
         [store, _, rounds @ ..] => (store_of(*store), Work::ListCalls, rounds.len()),

@@ -11,8 +11,8 @@ use steps::{clear_mark, mark_place, move_cell, return_place, update_cell};
 use store::CellStore;
 use values::Kind;
 
-// Does the first thing of its phase that is left to do, by a match on the phase, as a rule of the project has it. The cursors stand in the registers, and are lent from there:
-// one is moved on before a call that takes the registers whole.
+// Does the first thing of its phase that is left to do, by a match on the phase, as a rule of the project has it. The cursors stand in the registers,
+// and are lent from there: one is moved on before a call that takes the registers whole.
 pub fn step<S: CellStore>(top: &Top, regs: &mut Registers, s: &mut S) -> Result<Stepped, Refusal>
     ensures { ◌≡◌ {A = Done SteppedT} (record { says = result; heap = view top.now regs.new (S.meaning s.new) }) (step (view top.now regs.old (S.meaning s.old))) }
 {

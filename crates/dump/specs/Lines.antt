@@ -3,7 +3,7 @@ use Rattle.std.specs.Prelude.{ℕ, List, [], ◌++◌, length, Some, None, vec_i
 use Rattle.std.specs.List.{flat_map}
 use Rattle.tape.specs.Faults.{fault_number}
 use Rattle.tape.specs.Format.{entry_of, first, kind}
-use Rattle.tape.specs.Printed.{printed}
+use Rattle.tape.specs.Printed.{ended, printed}
 use Rattle.tape.specs.declared.faults.TapeFault.{TapeFault}
 use Rattle.tape.specs.declared.whole.Placed.{Placed}
 use Rattle.tape.specs.declared.whole.Reading.{Reading}
@@ -15,10 +15,6 @@ record_line x = decimal x.place ++ (codes " " ++ (decimal (kind (entry_of x.reco
 -- A faulty record's line: its place, its first byte, the word bad, and the number of the fault.
 abbrev pub fault_line : TapeFault → List ℕ
 fault_line f = decimal f.rest.place ++ (codes " " ++ (decimal (first f.rest.tape.now) ++ (codes " bad " ++ decimal (fault_number f.what))))
-
--- A line with its end.
-abbrev pub ended : List ℕ → List ℕ
-ended bs = bs ++ codes "\n"
 
 abbrev pub record_lines : List Placed → List ℕ
 record_lines xs = flat_map (λ (x : Placed). ended (record_line x)) xs

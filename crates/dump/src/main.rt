@@ -24,7 +24,8 @@ impl fmt::Display for Line<'_> {
     }
 }
 
-// A faulty record's line: its place, its first byte, and the number of the fault.
+// A faulty record's line: its place, its first byte, and the number of the fault. Where a tape is played the line is of the player's report, which
+// nothing here makes.
 #[derive(Clone, Copy)]
 struct BadLine<'a>(TapeFault<'a>);
 

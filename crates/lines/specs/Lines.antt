@@ -11,7 +11,7 @@ use Rattle.player.specs.declared.faults.Report.{Report}
 use Rattle.player.specs.declared.outcomes.Played.{Played}
 use Rattle.tape.specs.Faults.{fault_number}
 use Rattle.tape.specs.Format.{Entry, note, entry_of, first, kind}
-use Rattle.tape.specs.Printed.{hexadecimal}
+use Rattle.tape.specs.Printed.{ended, hexadecimal}
 use Rattle.tape.specs.Reading.{Fault}
 use Rattle.tape.specs.declared.faults.Layer.{Layer}
 use Rattle.tape.specs.declared.faults.Layer.TheVariants as L
@@ -61,10 +61,6 @@ report_text r = decimal r.place ++ (codes " " ++ (decimal r.kind ++ (codes " " +
 -- How a fault is reported that stopped the reading of a tape.
 abbrev pub reading_report : Fault → Report
 reading_report f = record { number = fault_number f.what; place = f.place; kind = first f.unread; layer = L.Tape }
-
--- A line with its end.
-abbrev pub ended : List ℕ → List ℕ
-ended bs = bs ++ codes "\n"
 
 -- A fault that is not reported has no line.
 abbrev pub fault_lines : Option Report → List ℕ

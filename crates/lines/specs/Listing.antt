@@ -7,7 +7,8 @@ use Rattle.player.specs.Plays.{records_of, Plays, Ends}
 use Rattle.player.specs.declared.outcomes.Played.{Played}
 use Rattle.tape.specs.Whole.{read_whole}
 use Rattle.values.specs.declared.cells.Cell.{Cell}
-use Rattle.lines.specs.Lines.{ended, fault_lines, played_lines, reading_report}
+use Rattle.lines.specs.Lines.{fault_lines, played_lines, reading_report}
+use Rattle.tape.specs.Printed.{ended}
 use Rattle.lines.specs.declared.faults.ProgramFault.{ProgramFault}
 
 -- How the playing of a tape ended, as the program has it: by the player's fault, with its report.

@@ -41,7 +41,7 @@ impl fmt::Display for FaultLine {
     }
 }
 
-// The word that stands before a fault's number in a line. A function, since `Layer` is another crate's type, and has a word in these lines alone.
+// The word that stands before a fault's number in a line. A function, since it is a word of the line and no name of the layer.
 pub fn layer_word(layer: Layer) -> &'static str
     ensures { result.now ≡ layer_word layer }
 {

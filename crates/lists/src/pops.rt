@@ -7,7 +7,7 @@ use barrier::{normalise, offer};
 use model::{Refusal, Registers, Top};
 use store::CellStore;
 
-// Pops a value into a root.
+// Pops a value into a root. The root is tested by its index: after a `get_mut` a proof knows none of the roots.
 pub fn store<S: CellStore>(
     top: &mut Top,
     regs: &mut Registers,

@@ -1,5 +1,5 @@
 // What a call answers, and why one is refused.
-ghost use Rattle.std.specs.Prelude.{◌≡◌, ◌++◌, codes, decimal, Some};
+ghost use Rattle.std.specs.Prelude.{◌≡◌, Some};
 ghost use Rattle.std.proofs.Common.{rules};
 ghost use Rattle.model.specs.Answers.{number_of, name_of, same_look, phase_word, looked_text, stepped_text, answer_text};
 ghost use Rattle.model.specs.Calls.{looked};
@@ -49,7 +49,8 @@ impl From<Value> for Looked {
     }
 }
 
-// By hand, since numbers are the same by their patterns; a derive would compare them as floats.
+// By hand, since numbers are the same by their patterns; a derive would compare them as floats. Answers are compared by it; values are compared by
+// the call that asks whether two are the same, which compares places too.
 impl PartialEq for Looked {
     ghost eq = { same_look };
 

@@ -4,7 +4,8 @@ ghost use Rattle.model.specs.Answers.{asked};
 
 use crate::answers::{Answer, Refusal};
 
-// The calls of a list script. A root, a component or a depth is any byte, since a call given a wrong one is refused and not impossible.
+// The calls of a list script. A root, a component or a depth is any byte, as is begin's argument below and wherever a call takes one, since a call
+// given a wrong one is refused and not impossible.
 #[derive(Clone, Copy)]
 pub enum ListCall {
     Nil,

@@ -1,11 +1,9 @@
 // Cells in bytes, eight to a group: a byte of marks, one of flags, one of waiting bits, then eight cells.
-ghost use Rattle.std.specs.Prelude.{take, drop, ◌+◌, ◌≡◌, ℕ, ◌<◌, ◌≤◌, List, length, slice_index_or, slice_set};
+ghost use Rattle.std.specs.Prelude.{take, drop, ◌+◌, ◌≡◌, ℕ, ◌<◌, ◌≤◌, length, slice_index_or};
 ghost use Rattle.std.proofs.lemmas.List.Edits.{sets};
-ghost use Rattle.values.specs.Cells.{blank};
-ghost use Rattle.values.specs.declared.cells.Cell.{Cell as CellT};
 ghost use Rattle.values.specs.declared.cells.Value.TheVariants as V;
 ghost use Rattle.packed.specs.Words.{value_bytes, value_in};
-ghost use Rattle.packed.specs.Groups.{bit_place, bytes_with, cell_at, cell_count, cells_in, part_place, row_number, spare, width};
+ghost use Rattle.packed.specs.Groups.{bit_place, bytes_with, cell_at, cell_count, part_place, row_number, width};
 
 use crate::bits::{bit_of, set_bit};
 use crate::words::ValueBytes;
@@ -56,7 +54,8 @@ fn value_at(bytes: &[u8], at: usize) -> Value
     Value::from(ValueBytes(*bytes[at..].first_chunk().unwrap()))
 }
 
-// The cell at a place that has one. Its components are listed, since `array::from_fn` made steps over the store 4% dearer in instructions.
+// The cell at a place that has one. Its components are listed: with `array::from_fn` a step over the store is 4% dearer, and no
+// change of form may make one dearer than it was.
 pub(crate) fn read_cell(bytes: &[u8], place: u32) -> Cell
     requires { place < cell_count (length bytes.now) }
     ensures { result ≡ cell_at bytes.now place }

@@ -20,7 +20,7 @@ pub struct PackedStore<'a> {
 }
 
 impl PackedStore<'_> {
-    // Reads without a change, so that it needs no store lent for writing.
+    // What is read, by a call that can change nothing.
     #[tactic(auto, using(crate::proofs::Cells::cell_in, crate::proofs::Cells::cell_past))]
     fn cell(&self, place: u32) -> Cell
         ensures { result ≡ slice_index_or (cells_in self.now.bytes.now) place blank }

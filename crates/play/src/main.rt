@@ -10,8 +10,8 @@ use std::io;
 use table::TableStore;
 use values::{CellRecord, PlainValue};
 
-// What a place of the table holds before the heap is opened. A constant: of records made by `From` it was tried, and not found that they mean blank
-// cells.
+// What a place of the table holds before the heap is opened. Written out: of records made by `From` the search did
+// not find that they mean blank cells, and a proof by hand is longer.
 const BLANK: CellRecord = CellRecord {
     mark: false,
     flag: false,

@@ -7,7 +7,8 @@ use model::{Call, ListCall};
 use tape::Record;
 use values::number_of;
 
-// The call of a record; a note asks for none. A function, since neither type is this crate's, and a note is no error.
+// The call of a record; a note asks for none. A function, since neither type is this crate's, and a note is no error. The two enums are nearly alike by
+// a rule of the project: a record has a number's pattern and borrows a note from the tape, a call has the number.
 pub fn call_of(record: Record<'_>) -> Option<Call>
     ensures { result ≡ call_of (entry_of «record».entry) }
 {

@@ -30,7 +30,7 @@ fn play_record<S: CellStore>(
 
 // Opens a heap over a store, whatever its cells hold, and plays the tape's records in order; a refused call stops nothing.
 // Afterwards `played` has the records that were played, and no others. Room for a record is made before it is played, so that no call is made
-// of which nothing is kept.
+// of which nothing is kept. The records are taken by `next`, which hands the rest back, as a rule of the project has it.
 #[tactic(auto, using(std::proofs::lemmas::Grind::common_steps, crate::proofs::Turns::came_lawful))]
 pub fn play<'a, S: CellStore>(
     s: &mut S,

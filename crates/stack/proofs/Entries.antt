@@ -2,7 +2,7 @@
 use Rattle.std.proofs.Common.{◌≡◌, ℕ, ◌+◌, ◌-◌, ◌<◌, ◌≤◌, min, List, [], ◌∷◌, reverse, length, get_or, take, drop, set, Some, sym, ap, ◌∙◌, arith}
 use lib.Seq.{take-set-lt}
 use Rattle.std.specs.List.{slice_get}
-use Rattle.std.proofs.lemmas.List.{take_more_set, reverse-append, reverse-reverse, length-reverse, length-take, length-set, same_lists, get_or-reverse, get_or-set_same, get_or-set_other, get_or-take, get_or-drop, length-drop, set_past, take_all}
+use Rattle.std.proofs.lemmas.List.{take_more_set, reverse-append, reverse-reverse, length-reverse, length-take, length-set, same_lists, get_or-reverse, get_or-set_same, get_or-set_other, get_or-take, get_or-drop, length-drop, set_past}
 use Rattle.std.proofs.lemmas.Option.{slice_get_read, slice_get_past}
 use Rattle.std.proofs.lemmas.Bool.{cases_eq}
 use Rattle.stack.specs.Entries.{stacked}
@@ -11,10 +11,6 @@ use Rattle.stack.specs.Slots.{Held}
 module _ {X : Type 0} where
   length_stacked : (h : ℕ) (xs : List X) → length (stacked h xs) ≡ min h (length xs)
   length_stacked h xs = length-reverse (take h xs) ∙ length-take h xs
-
-  -- all slots used
-  pub reverse_stacked_all : (xs : List X) → reverse (stacked (length xs) xs) ≡ xs
-  reverse_stacked_all xs = reverse-reverse (take (length xs) xs) ∙ take_all (length xs) xs (omega arith)
 
   -- the slot above the entries, written
   stacked_push : (h : ℕ) (xs : List X) (x : X) → h < length xs → stacked (h + 1) (set xs h x) ≡ x ∷ stacked h xs

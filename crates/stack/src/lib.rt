@@ -77,7 +77,7 @@ pub fn replace<T: Copy>(slots: &mut [T], height: usize, depth: usize, x: T) -> O
     }
 }
 
-// The entry in slot `index`, counted from the bottom.
+// The entry in slot `index`, counted from the bottom: no twin of `peek`, which counts from the top.
 pub fn slot<T: Copy>(slots: &[T], height: usize, index: usize) -> Option<T>
     ensures value { result ≡ slice_get (reverse (stacked height slots.now)) index }
     ensures there { MatchOption result (min height (length slots.now) ≤ index) (λ _. index < min height (length slots.now)) }

@@ -1,4 +1,5 @@
-// What a step of the collector does to one place, over any store.
+// What a step of the collector does to one place, over any store. Each reads the cell, changes it and writes it back; the change as a closure would
+// have to be promised as well, and would read no plainer.
 #![tactic(auto)]
 
 mod marks;

@@ -14,7 +14,7 @@ pub struct TableStore<'a> {
 }
 
 impl TableStore<'_> {
-    // Reads without a change, so that it needs no store lent for writing. A place past the end is blank.
+    // What is read, by a call that can change nothing. A place past the end is blank.
     fn cell(&self, place: u32) -> Cell
         ensures { result ≡ slice_index_or (map meant_cell self.now.cells.now) place blank }
     {

@@ -7,9 +7,9 @@ mod calls;
 
 use fresh::StoreKind;
 use std::io;
-use std::io::Read;
 
-const LIMIT: u64 = 1_048_576;
+// How much of its input it takes.
+const LIMIT: usize = 1_048_576;
 
 // The groups of eight cells of a small store and of a large one.
 const SMALL: u16 = 8;
@@ -17,8 +17,7 @@ const SMALL: u16 = 8;
 const LARGE: u16 = 512;
 
 fn main(rt: HostRuntime) -> io::Result<()> {
-    let mut input = Vec::new(rt.alloc());
-    let _ = rt.stdin().take(LIMIT).read_to_end(&mut input)?;
+    let input = input::read::<LIMIT>(&rt)?;
     let (store, groups, tape) = match input.as_slice() {
         [store, b'l', tape @ ..] => (StoreKind::try_from(*store).ok(), LARGE, tape),
         [store, _, tape @ ..] => (StoreKind::try_from(*store).ok(), SMALL, tape),

@@ -35,3 +35,7 @@ argument (note text) = codes " " ++ hexadecimal text
 -- The name of a record's kind, and its argument.
 abbrev pub printed : Entry → List ℕ
 printed e = (kind e).name ++ argument e
+
+-- A line with its end.
+abbrev pub ended : List ℕ → List ℕ
+ended bs = bs ++ codes "\n"

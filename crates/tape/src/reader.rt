@@ -13,14 +13,14 @@ pub struct Taken<'a> {
     pub rest: Rest<'a>,
 }
 
-// The number in four bytes, the most significant first.
+// The number in four bytes, the most significant first; a function, to say by arithmetic what they mean.
 fn big_endian(a: u8, b: u8, c: u8, d: u8) -> u32
     ensures { result ≡ a * 16777216 + b * 65536 + c * 256 + d }
 {
     u32::from_be_bytes([a, b, c, d])
 }
 
-// Splits the first record off a tape; `None` where the tape is empty.
+// Splits the first record off a tape; `None` where the tape is empty. Its kind is a number in a slice pattern, as a rule of the project has it.
 #[tactic(auto, using(crate::proofs::Fronts::front_split, crate::proofs::Fronts::front_note))]
 fn split_record<'a>(tape: &'a [u8]) -> Result<Option<(Record<'a>, &'a [u8])>, FaultKind>
     ensures { split_off result ≡ front tape.now }
@@ -51,7 +51,8 @@ fn split_record<'a>(tape: &'a [u8]) -> Result<Option<(Record<'a>, &'a [u8])>, Fa
     }
 }
 
-// Takes the first record; `None` at the end of the tape.
+// Takes the first record; `None` at the end of the tape. A match, since the borrow checker does not follow a closure that takes along what borrows the
+// tape, as one for `map_err` would.
 pub fn next<'a>(from: Rest<'a>) -> Result<Option<Taken<'a>>, TapeFault<'a>>
     ensures { seen result ≡ read from.entry.tape.now from.entry.place }
 {

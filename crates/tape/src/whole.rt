@@ -23,7 +23,8 @@ pub struct Reading<'a> {
     pub fault: Option<TapeFault<'a>>,
 }
 
-// Reads a tape whose first byte has this place, until it ends or a fault stops the reading.
+// Reads a tape whose first byte has this place, until it ends or a fault stops the reading. By `next`, which hands the rest back, as a rule of the
+// project has it: an iterator would keep it, and the fault with it.
 // Not by a `Rest`: that the bytes of a slice in a struct are below 256, which the law needs, is not known.
 fn read_from<'a>(heap: Global, tape: &'a [u8], place: usize) -> Result<Reading<'a>, AllocError>
     requires { place + length tape.now < 2 ^ 64 }

@@ -1,4 +1,5 @@
-// The plain forms of values and cells: a number stands in them as its pattern.
+// The plain forms of values and cells: a number stands in them as its pattern. Types of their own, and not one generic over the number, as a rule of
+// the project has it: a value carries a float, and a caller's table may have none in it.
 ghost use Rattle.std.specs.Prelude.{◌≡◌, map};
 ghost use Rattle.values.specs.Records.{plain_value, meant_value, plain_cell, meant_cell};
 
