@@ -27,7 +27,8 @@ pub fn normalise_all<S: CellStore>(s: &mut S, mut parts: [Value; 2]) -> [Value; 
     ensures value { result ≡ normal_all (memory (S.meaning s.old)) parts }
     ensures same { S.meaning s.new ≡ S.meaning s.old }
 {
-    parts[0] = normalise(s, parts[0]);
-    parts[1] = normalise(s, parts[1]);
+    for part in parts.iter_mut() {
+        *part = normalise(s, *part);
+    }
     parts
 }

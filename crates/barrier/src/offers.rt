@@ -39,6 +39,7 @@ pub fn offer<S: CellStore>(top: &Top, regs: &mut Registers, s: &mut S, v: Value)
 pub fn offer_all<S: CellStore>(top: &Top, regs: &mut Registers, s: &mut S, parts: [Value; 2])
     ensures { view top.now regs.new (S.meaning s.new) ≡ offered_all parts (view top.now regs.old (S.meaning s.old)) }
 {
-    offer(top, regs, s, parts[0]);
-    offer(top, regs, s, parts[1]);
+    for part in parts {
+        offer(top, regs, s, part);
+    }
 }
