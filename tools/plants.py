@@ -138,7 +138,7 @@ PLANTS = [
     one("offer-tests-the-mark", "barrier", "offers.rt", "|| cell.waiting {", "|| cell.mark {"),
     one("offer-of-place-n", "barrier", "offers.rt", "place >= places(s)", "place > places(s)"),
     one("offer-not-written", "barrier", "offers.rt", "        write_place(s, place, waiting);\n", ""),
-    one("offer-all-but-the-first", "barrier", "offers.rt", "    offer(top, regs, s, parts[0]);\n", ""),
+    one("offer-all-but-the-first", "barrier", "offers.rt", "for part in parts {", "for part in [parts[1]] {"),
     one("normalise-a-free-place", "barrier", "normal.rt", "if cell.kind() == Kind::Moved {", "if cell.kind() == Kind::Moved || cell.kind() == Kind::Free {"),
     one("push-offers-as-given", "barrier", "pushes.rt", "offer(top, regs, s, normal);", "offer(top, regs, s, v);"),
     one("push-offers-nothing", "barrier", "pushes.rt", "    offer(top, regs, s, normal);\n", ""),

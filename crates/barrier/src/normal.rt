@@ -22,7 +22,7 @@ pub fn normalise<S: CellStore>(s: &mut S, v: Value) -> Value
     }
 }
 
-// Normalises all components of a cell. A `map` over them was tried: nothing is known then of what it leaves of the store that its closure borrows.
+// Normalises all components of a cell.
 pub fn normalise_all<S: CellStore>(s: &mut S, mut parts: [Value; 2]) -> [Value; 2]
     ensures value { result ≡ normal_all (memory (S.meaning s.old)) parts }
     ensures same { S.meaning s.new ≡ S.meaning s.old }

@@ -34,8 +34,7 @@ pub fn offer<S: CellStore>(top: &Top, regs: &mut Registers, s: &mut S, v: Value)
     }
 }
 
-// Offers all components of a cell, the first one first. Each call borrows the registers and the store, of which a chain over the components tells
-// nothing.
+// Offers all components of a cell, the first one first.
 pub fn offer_all<S: CellStore>(top: &Top, regs: &mut Registers, s: &mut S, parts: [Value; 2])
     ensures { view top.now regs.new (S.meaning s.new) ≡ offered_all parts (view top.now regs.old (S.meaning s.old)) }
 {
