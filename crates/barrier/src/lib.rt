@@ -1,5 +1,6 @@
 // The heap's access to its places, and its two words, normalise and offer, over any store.
 // The list's height, the other registers and the store are taken apart, as a rule of the project has it: the height is to be lent alone.
+// Each contract says its own rule's answer and the whole heap that is left, in one equation: a word for it would hide that both are compared.
 #![tactic(auto)]
 
 mod access;

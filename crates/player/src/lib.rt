@@ -1,5 +1,6 @@
 // The player: makes the calls of a tape of a heap, and keeps what became of each record.
 // The list's height, the other registers and the store are taken apart, as a rule of the project has it: the height is to be lent alone.
+// Each contract says its own rule's answer and the whole heap that is left, in one equation: a word for it would hide that both are compared.
 #![tactic(auto)]
 
 mod calls;
