@@ -1,7 +1,7 @@
-// What a call answers, and why one is refused.
+// What a call answers, and why one is refused. The words that are printed are functions of their own, which cannot fail; printing may.
 ghost use Rattle.std.specs.Prelude.{◌≡◌, Some};
 ghost use Rattle.std.proofs.Common.{rules};
-ghost use Rattle.model.specs.Answers.{number_of, name_of, same_look, phase_word, looked_text, stepped_text, answer_text};
+ghost use Rattle.model.specs.Answers.{number_of, name_of, same_look, phase_word, looked_word, same_word, looked_text, stepped_text, answer_text};
 ghost use Rattle.model.specs.Calls.{looked};
 
 use crate::registers::Phase;
@@ -65,17 +65,28 @@ impl PartialEq for Looked {
     }
 }
 
+// The word by which a look's text begins.
+pub fn looked_word(looked: Looked) -> &'static str
+    ensures { result.now ≡ looked_word looked }
+{
+    match looked {
+        Looked::Nil => "nil",
+        Looked::Number(_) => "number",
+        Looked::Cell => "cell",
+    }
+}
+
 impl fmt::Display for Looked {
     ghost output = { λ l. Some (looked_text l) };
 
     fn fmt<W: fmt::Write>(&self, f: &mut fmt::Formatter<W>) -> fmt::Result {
+        f.write_str(looked_word(*self))?;
         match self {
-            Looked::Nil => f.write_str("nil"),
             Looked::Number(x) => {
                 let pattern = pattern_of(*x);
-                write!(f, "number {pattern:08x}")
+                write!(f, " {pattern:08x}")
             }
-            Looked::Cell => f.write_str("cell"),
+            Looked::Nil | Looked::Cell => Ok(()),
         }
     }
 }
@@ -103,17 +114,24 @@ impl From<Phase> for PhaseName {
     }
 }
 
+// The word by which a phase is printed.
+pub fn phase_word(phase: PhaseName) -> &'static str
+    ensures { result.now ≡ phase_word phase }
+{
+    match phase {
+        PhaseName::Rest => "rest",
+        PhaseName::Mark => "mark",
+        PhaseName::Relocate => "relocate",
+        PhaseName::Update => "update",
+        PhaseName::Reclaim => "reclaim",
+    }
+}
+
 impl fmt::Display for PhaseName {
     ghost output = { λ n. Some (phase_word n) };
 
     fn fmt<W: fmt::Write>(&self, f: &mut fmt::Formatter<W>) -> fmt::Result {
-        f.write_str(match self {
-            PhaseName::Rest => "rest",
-            PhaseName::Mark => "mark",
-            PhaseName::Relocate => "relocate",
-            PhaseName::Update => "update",
-            PhaseName::Reclaim => "reclaim",
-        })
+        f.write_str(phase_word(*self))
     }
 }
 
@@ -144,6 +162,13 @@ pub enum Answer {
     Census(usize),
 }
 
+// The word by which it is printed whether two values are the same.
+pub fn same_word(same: bool) -> &'static str
+    ensures { result.now ≡ same_word same }
+{
+    if same { "yes" } else { "no" }
+}
+
 // A call that only does something has no text.
 impl fmt::Display for Answer {
     ghost output = { λ a. Some (answer_text a) };
@@ -151,7 +176,7 @@ impl fmt::Display for Answer {
     fn fmt<W: fmt::Write>(&self, f: &mut fmt::Formatter<W>) -> fmt::Result {
         match self {
             Answer::Done => Ok(()),
-            Answer::Same(same) => f.write_str(if *same { "yes" } else { "no" }),
+            Answer::Same(same) => f.write_str(same_word(*same)),
             Answer::Look(looked) => write!(f, "{looked}"),
             Answer::Step(stepped) => write!(f, "{stepped}"),
             Answer::Census(count) => write!(f, "{count}"),

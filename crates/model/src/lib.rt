@@ -5,6 +5,8 @@ mod answers;
 mod calls;
 mod registers;
 
-pub use answers::{Answer, Looked, PhaseName, Refusal, Stepped};
+pub use answers::{
+    Answer, Looked, PhaseName, Refusal, Stepped, looked_word, phase_word, same_word,
+};
 pub use calls::{Call, Event, ListCall};
 pub use registers::{FreeList, Phase, Registers, Top};
