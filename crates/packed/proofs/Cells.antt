@@ -12,7 +12,7 @@ use Rattle.values.specs.declared.cells.Value.TheVariants as V
 use Rattle.packed.specs.Words.{value_bytes, value_in}
 use Rattle.packed.specs.Groups.{width, group_size, cell_count, bit_place, part_place, bit_at, part_at, cell_at, cells_in, spare, with_bit_at, with_part_at, bits_of, with_bits, bytes_with}
 use Rattle.packed.proofs.Runs.{sets_keep, each_keep, each_read}
-use Rattle.packed.proofs.Slots.{bit_there, bit_apart, bit_past_part, part_there, part_apart, part_past_bit}
+use Rattle.packed.proofs.Slots.{bit_there, bit_apart, bit_past_part, part_there, part_apart, part_past_bit, cells_apart, parts_apart}
 
 pub length_cells : (bs : List ℕ) → length (cells_in bs) ≡ cell_count (length bs)
 length_cells bs = length-map-range_with_len (cell_at bs) 0 (cell_count (length bs))
@@ -58,7 +58,7 @@ module _ (bs : List ℕ) (p : ℕ) (c : Cell) where
       let bit : (r : ℕ) → r < 3 → bit_at end q r ≡ bit_at bs q r =
       λ r k. parts_keep (λ l. bit_at l q r) (λ ys i v h. bit_past_part ys p i q r v h k) ∙ bits_keep (λ l. bit_at l q r) (λ ys row on h. bit_apart ys p row q r on h k (inl n)) in
       let part : (j : ℕ) → j < width → part_at end q j ≡ part_at bs q j =
-      λ j k. parts_keep (λ l. part_at l q j) (λ ys i v h. part_apart ys p i q j v (grind arith)) ∙ bits_keep (λ l. part_at l q j) (λ ys row on h. part_past_bit ys p row q j on h k) in
+      λ j k. parts_keep (λ l. part_at l q j) (λ ys i v h. part_apart ys p i q j v (cells_apart p i q j h k n)) ∙ bits_keep (λ l. part_at l q j) (λ ys row on h. part_past_bit ys p row q j on h k) in
       let parts = fill_by_all (part_at bs q) (map (part_at end q) (range_with_len 0 width)) width V.Nil refl (λ j k. get_or-map-range_with_len (part_at end q) 0 width j j V.Nil k (omega arith) ∙ part j k) in
       λ i. record { mark = bit 0 (omega arith) i; flag = bit 1 (omega arith) i; waiting = bit 2 (omega arith) i; parts = parts i }
 
@@ -79,7 +79,7 @@ module _ (bs : List ℕ) (p : ℕ) (c : Cell) where
           (λ ys row h l. bit_there ys p row _ (omega arith) h) (λ ys row r h k n. bit_apart ys p row p r _ h k (inr n)) 3 0 bs r refl (omega arith) (omega arith) (omega arith) in
           let part : (j : ℕ) → j < width → part_at end p j ≡ get_or c.parts j V.Nil =
           λ j k. each_read (λ j l. part_at l p j) (λ j. get_or c.parts j V.Nil) part_write width (length bs) (λ ys i. length-sets _ _ (value_bytes _))
-          (λ ys i h l. part_there ys p i _ (omega arith) h (back i h)) (λ ys i j h k n. part_apart ys p i p j _ (grind arith)) width 0 mid j length_mid (omega arith) (omega arith) (omega arith) in
+          (λ ys i h l. part_there ys p i _ (omega arith) h (back i h)) (λ ys i j h k n. part_apart ys p i p j _ (parts_apart p i j n)) width 0 mid j length_mid (omega arith) (omega arith) (omega arith) in
           let parts = sym (fill_by_all (part_at end p) c.parts width V.Nil full (λ j k. sym (part j k))) in
           λ i. record { mark = bit 0 (omega arith) i; flag = bit 1 (omega arith) i; waiting = bit 2 (omega arith) i; parts = parts i }
 

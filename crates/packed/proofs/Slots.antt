@@ -48,6 +48,13 @@ part_there ys p i v h k e = ap value_in (sets_there (value_bytes v) ys (part_pla
 abbrev Apart : ℕ → ℕ → Type 0
 Apart a b = (a + 5 ≤ b) ⊎ (b + 5 ≤ a)
 
+-- Two components lie apart: of two cells, or of one.
+pub cells_apart : (p i q j : ℕ) → i < width → j < width → q ≢ p → Apart (part_place p i) (part_place q j)
+cells_apart p i q j h k n = grind arith
+
+pub parts_apart : (p i j : ℕ) → j ≢ i → Apart (part_place p i) (part_place p j)
+parts_apart p i j n = grind arith
+
 pub part_apart : (ys : List ℕ) (p i q j : ℕ) (v : Value) → Apart (part_place p i) (part_place q j) → part_at (with_part_at ys p i v) q j ≡ part_at ys q j
 part_apart ys p i q j v d =
     sets_keep (λ l. part_at l q j) (value_bytes v) ys (part_place p i) (λ zs k w a b.

@@ -10,7 +10,7 @@ use Rattle.values.specs.Cells.{blank, kind}
 use Rattle.values.specs.declared.cells.Cell.{Cell}
 
 -- The places are written from 0 on, each with the cell that f gives for it.
-fill_more : (f : ℕ → Cell) (p : ℕ) (cells : List Cell) → p < min 4096 (length cells) → cells_with (map f (range_with_len 0 p) ++ drop p cells) p (f p) ≡ map f (range_with_len 0 (p + 1)) ++ drop (p + 1) cells
+pub fill_more : (f : ℕ → Cell) (p : ℕ) (cells : List Cell) → p < min 4096 (length cells) → cells_with (map f (range_with_len 0 p) ++ drop p cells) p (f p) ≡ map f (range_with_len 0 (p + 1)) ++ drop (p + 1) cells
 unfolding cells_with
 fill_more f p cells h =
     let front = map f (range_with_len 0 p) in
