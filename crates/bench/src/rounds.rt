@@ -47,7 +47,7 @@ fn ask_all(log: &mut Vec<Event>, calls: &[ListCall]) -> Result<(), AllocError> {
     Ok(())
 }
 
-// So many rounds of list calls. Room for all is made first: a log that grew by rounds would take a quarter more.
+// So many rounds of list calls. Room for all is made first: a log that grows takes up to twice what it needs.
 pub fn list_calls(heap: Global, rounds: usize) -> Result<Vec<Event>, AllocError> {
     let mut log = Vec::new(heap);
     log.reserve(rounds.saturating_mul(ROUND.len()))?;

@@ -162,7 +162,7 @@ pub enum Answer {
     Census(usize),
 }
 
-// The word by which it is printed whether two values are the same.
+// The word that says whether two values are the same.
 pub fn same_word(same: bool) -> &'static str
     ensures { result.now ≡ same_word same }
 {

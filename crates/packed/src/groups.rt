@@ -54,8 +54,7 @@ fn value_at(bytes: &[u8], at: usize) -> Value
     Value::from(ValueBytes(*bytes[at..].first_chunk().unwrap()))
 }
 
-// The cell at a place that has one. Its components are listed: with `array::from_fn` a step over the store is 4% dearer, and no
-// change of form may make one dearer than it was.
+// The cell at a place that has one. Its components are listed: with `array::from_fn` the mean step over the store is 4% dearer.
 pub(crate) fn read_cell(bytes: &[u8], place: u32) -> Cell
     requires { place < cell_count (length bytes.now) }
     ensures { result ≡ cell_at bytes.now place }
